@@ -1,0 +1,75 @@
+-- Short words for the examples: a fresh table, calls, what of their answers is looked at, and a table of examples. Assumes nothing.
+use Prim.Native.Nat.{ℕ, _+_, _*_}
+use mathlib.Core.Path.{_≡_, refl, ap}
+use mathlib.Core.Bool.{Bool, true, false, _&&_}
+use mathlib.Core.List.{List, [], _∷_, map}
+use native.Mathlib.Omega.{arith}
+use lib.ListN.{replicate, take, drop}
+use lib.Dec.{eqb}
+use borrow.Author.Tests.{eqb-true}
+use Rattle.scope.proofs.Bools.{and-l, and-r}
+use Rattle.scope.specs.Calls.{Call, post, answers}
+use Rattle.scope.specs.Table.{base}
+use Rattle.scope.specs.declared.answer.Answer.{Answer}
+
+-- a started table of c slots
+abbrev pub fresh : ℕ → List ℕ
+fresh c = replicate (4 + 8 * c) 0
+
+-- one piece poured at each of the stamps
+abbrev pub poured : List ℕ → List Call
+poured ks = map (λ k. post k 1 1) ks
+
+-- the five numbers of an answer, one answer after the other
+abbrev pub five : List Answer → List ℕ
+five [] = []
+five (a ∷ rest) = a .code ∷ a .change ∷ a .value ∷ a .more ∷ a .kind ∷ five rest
+
+abbrev pub fives : List Call → List ℕ → List ℕ
+fives xs t = five (answers xs t)
+
+-- only the codes, or only the values
+abbrev pub codes : List Call → List ℕ → List ℕ
+codes xs t = map (λ a. a .code) (answers xs t)
+
+abbrev pub values : List Call → List ℕ → List ℕ
+values xs t = map (λ a. a .value) (answers xs t)
+
+-- the header, and the eight words of slot k
+abbrev pub header : List ℕ → List ℕ
+header t = take 4 t
+
+abbrev pub slot : ℕ → List ℕ → List ℕ
+slot k t = take 8 (drop (base k) t)
+
+-- one line of a table of examples: what the definitions give, and what is to come out
+pub record Row : Type 0 where
+  pub given : List ℕ
+  pub stated : List ℕ
+
+abbrev pub row : List ℕ → List ℕ → Row
+row g s = record { given = g; stated = s }
+
+-- two lists of numbers are the same; so are the two of every row
+abbrev pub sameList : List ℕ → List ℕ → Bool
+sameList [] [] = true
+sameList [] (y ∷ ys) = false
+sameList (x ∷ xs) [] = false
+sameList (x ∷ xs) (y ∷ ys) = eqb x y && sameList xs ys
+
+abbrev pub agree : List Row → Bool
+agree [] = true
+agree (r ∷ rs) = sameList (r .given) (r .stated) && agree rs
+
+same-list : (xs ys : List ℕ) → sameList xs ys ≡ true → xs ≡ ys
+same-list [] [] e = refl
+same-list [] (y ∷ ys) e = let z : _≡_ {A = ℕ} 0 1 = cc in absurd (omega arith)
+same-list (x ∷ xs) [] e = let z : _≡_ {A = ℕ} 0 1 = cc in absurd (omega arith)
+same-list (x ∷ xs) (y ∷ ys) e =
+    let p = eqb-true x y (and-l _ _ e) in let q = same-list xs ys (and-r (eqb x y) _ e) in cc
+
+-- a table that agrees by computing holds row by row
+pub rows : (rs : List Row) → agree rs ≡ true → map (λ r. r .given) rs ≡ map (λ r. r .stated) rs
+rows [] e = refl
+rows (r ∷ rs) e =
+    let p = same-list (r .given) (r .stated) (and-l _ _ e) in let q = rows rs (and-r (sameList (r .given) (r .stated)) _ e) in cc

@@ -1,0 +1,19 @@
+use Rattle.scope.specs.Numbers.{heightOf}
+use borrow.Author.Tests.{le-leb, lt-leb}
+use Rattle.scope.proofs.height.Height.of.Statement.{statement}
+use Rattle.scope.proofs.height.Height.of.Tie as tie
+use Rattle.scope.proofs.height.Height.of.Reads as reads
+use Rattle.scope.proofs.height.Height.of.Lts as lts
+
+-- src/height.rt:18:5
+returns : tie.Need-returns
+unfolding heightOf
+returns c = simp (le-leb _ _ (c .if1 .taken))
+
+-- src/height.rt:18:5
+returns-2 : tie.Need-returns-2
+unfolding heightOf
+returns-2 c = simp (lt-leb _ _ (c .if1 .left))
+
+pub of-spec : {M : Type 1} → statement M
+of-spec = tie.close (tie.spec returns returns-2)

@@ -1,0 +1,101 @@
+-- Where each word of the table stands, and how a slot is read and written (document 01, "The table").
+use Prim.Native.Nat.{ℕ, _+_, _*_, _-_, _/_, _%_, _≤_}
+use mathlib.Core.Bool.{cond}
+use mathlib.Core.List.{List, [], _∷_}
+use lib.ListN.{length, getD, set}
+use lib.Dec.{eqb}
+use Rattle.scope.specs.Numbers.{slotsOf}
+use Rattle.scope.specs.declared.side.Side.{Side}
+use Rattle.scope.specs.declared.side.Side.the-variants.{Left, Right}
+use Rattle.scope.specs.declared.side.Link.{Link}
+use Rattle.scope.specs.declared.slot.Slot.{Slot}
+use Rattle.scope.specs.declared.slots.SlotsIs.{SlotsIs}
+use Rattle.scope.specs.declared.slots.SlotsIs.the-variants.{Within, Outside}
+
+-- word i, counted from 0
+abbrev pub word : List ℕ → ℕ → ℕ
+word t i = getD t i 0
+
+-- the four words before the slots
+abbrev pub rootWord : ℕ
+rootWord = 0
+
+abbrev pub countWord : ℕ
+countWord = 1
+
+abbrev pub changeWord : ℕ
+changeWord = 2
+
+abbrev pub zeroWord : ℕ
+zeroWord = 3
+
+-- a table of n words has c slots if n is 4 + 8c
+unfoldable pub slotsIn : ℕ → SlotsIs
+slotsIn n = cond (eqb (n % 8) 4) (slotsOf (n / 8)) Outside
+
+-- where the eight words of slot k begin; slots are counted from 1
+abbrev pub base : ℕ → ℕ
+base k = 4 + 8 * (k - 1)
+
+-- which of them is the link, and which the register, on a side
+abbrev pub linkPlace : Side → ℕ
+linkPlace Left = 3
+linkPlace Right = 4
+
+abbrev pub registerPlace : Side → ℕ
+registerPlace Left = 5
+registerPlace Right = 6
+
+-- slot k as it stands
+unfoldable pub slotAt : List ℕ → ℕ → Slot
+slotAt t k = record {
+  state = word t (base k);
+  key = word t (base k + 1);
+  pieces = word t (base k + 2);
+  left = word t (base k + 3);
+  right = word t (base k + 4);
+  lefth = word t (base k + 5);
+  righth = word t (base k + 6);
+  last = word t (base k + 7);
+}
+
+-- the table with the eight words of s in slot k
+unfoldable pub withSlot : List ℕ → ℕ → Slot → List ℕ
+withSlot t k s =
+    set (set (set (set (set (set (set (set t
+    (base k) (s .state)) (base k + 1) (s .key)) (base k + 2) (s .pieces)) (base k + 3) (s .left))
+    (base k + 4) (s .right)) (base k + 5) (s .lefth)) (base k + 6) (s .righth)) (base k + 7) (s .last)
+
+-- a slot's son and register on a side
+abbrev pub son : Slot → Side → ℕ
+son s Left = s .left
+son s Right = s .right
+
+abbrev pub register : Slot → Side → ℕ
+register s Left = s .lefth
+register s Right = s .righth
+
+-- where a link stands: in the root word, or in its holder
+unfoldable pub linkAt : Link → ℕ
+linkAt l = cond (eqb (l .holder) 0) rootWord (base (l .holder) + linkPlace (l .side))
+
+-- where the register on a side of slot k stands
+abbrev pub registerAt : ℕ → Side → ℕ
+registerAt k s = base k + registerPlace s
+
+-- a word to be written, and several one after the other
+pub record Write : Type 0 where
+  pub place : ℕ
+  pub what : ℕ
+
+abbrev pub put : ℕ → ℕ → Write
+put i x = record { place = i; what = x }
+
+unfoldable pub written : List ℕ → List Write → List ℕ
+written t [] = t
+written t (w ∷ ws) = written (set t (w .place) (w .what)) ws
+
+-- slot k lies whole in the table
+pub record InTable (t : List ℕ) (k : ℕ) : Type 0 where
+  pub first : 1 ≤ k
+  pub whole : 4 + 8 * k ≤ length t

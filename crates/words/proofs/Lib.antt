@@ -1,0 +1,2 @@
+-- Laws on the definitions that `words` computes.
+pub mod Laws

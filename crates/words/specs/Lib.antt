@@ -1,0 +1,2 @@
+-- What the functions of `words` ask of a table.
+pub mod Ready

@@ -1,0 +1,22 @@
+-- What the functions of `words` ask of a table, and what an open gate tells. Assumes nothing: these are statements.
+use Prim.Native.Nat.{ℕ, _+_, _*_, _≤_}
+use mathlib.Core.Path.{_≡_}
+use mathlib.Core.List.{List}
+use lib.ListN.{length}
+use Rattle.scope.specs.Table.{word, rootWord, countWord}
+
+-- the four words of the header are there
+abbrev pub Headed : List ℕ → Type 0
+Headed t = 4 ≤ length t
+
+-- a table of c slots
+pub record Sized (t : List ℕ) (c : ℕ) : Type 0 where
+  pub room : 4 + 8 * c ≡ length t
+  pub some : 1 ≤ c
+  pub most : c ≤ 4095
+
+-- a table of c slots with a good header
+pub record Ready (t : List ℕ) (c : ℕ) : Type 0 where
+  pub sized : Sized t c
+  pub root : word t rootWord ≤ c
+  pub count : word t countWord ≤ c

@@ -1,0 +1,138 @@
+// Reading words, slots and links.
+use scope::Link;
+use scope::Side;
+use scope::Slot;
+ghost use mathlib.Core.Path.{_≡_};
+ghost use Prim.Native.Nat.{_≤_, _<_};
+ghost use lib.ListN.{length};
+ghost use Rattle.scope.specs.Table.{word, rootWord, countWord, changeWord, slotAt, son, register, linkAt, registerAt, InTable};
+ghost use Rattle.words.specs.Ready.{Headed};
+
+// A word as an index.
+pub fn wide(x: u32) -> usize
+    ensures { λ r. ⌜ r ≡ x ⌝ }
+{
+    x as usize
+}
+
+// A word as a number of an answer.
+pub fn long(x: u32) -> u64
+    ensures { λ r. ⌜ r ≡ x ⌝ }
+{
+    x as u64
+}
+
+// An index as a number of an answer.
+pub fn size(n: usize) -> u64
+    ensures { λ r. ⌜ r ≡ n ⌝ }
+{
+    n as u64
+}
+
+// The root's slot, 0 for none.
+pub fn root(t: &[u32]) -> usize
+    requires { ⌜ Headed (now t) ⌝ }
+    ensures { λ r. ⌜ r ≡ word (now (t .entry)) rootWord ⌝ }
+{
+    wide(t[0])
+}
+
+// How many records the header counts.
+pub fn records(t: &[u32]) -> usize
+    requires { ⌜ Headed (now t) ⌝ }
+    ensures { λ r. ⌜ r ≡ word (now (t .entry)) countWord ⌝ }
+{
+    wide(t[1])
+}
+
+// The change number.
+pub fn change(t: &[u32]) -> u32
+    requires { ⌜ Headed (now t) ⌝ }
+    ensures { λ r. ⌜ r ≡ word (now (t .entry)) changeWord ⌝ }
+{
+    t[2]
+}
+
+// A slot by value.
+pub fn slot_at(t: &[u32], k: usize) -> Slot
+    requires { ⌜ InTable (now t) k ⌝ }
+    ensures { λ r. ⌜ r ≡ slotAt (now (t .entry)) k ⌝ }
+{
+    let b = 4 + Slot::WORDS * (k - 1);
+    Slot {
+        state: t[b],
+        key: t[b + 1],
+        pieces: t[b + 2],
+        left: t[b + 3],
+        right: t[b + 4],
+        lefth: t[b + 5],
+        righth: t[b + 6],
+        last: t[b + 7],
+    }
+}
+
+// A slot's state alone.
+pub fn state_at(t: &[u32], k: usize) -> u32
+    requires { ⌜ InTable (now t) k ⌝ }
+    ensures { λ r. ⌜ r ≡ slotAt (now (t .entry)) k .state ⌝ }
+{
+    t[4 + Slot::WORDS * (k - 1)]
+}
+
+// A slot's son on a side, 0 for none.
+pub fn son(s: Slot, side: Side) -> usize
+    ensures { λ r. ⌜ r ≡ son s side ⌝ }
+{
+    match side {
+        Side::Left => wide(s.left),
+        Side::Right => wide(s.right),
+    }
+}
+
+// A slot's register on a side.
+pub fn register(s: Slot, side: Side) -> u32
+    ensures { λ r. ⌜ r ≡ register s side ⌝ }
+{
+    match side {
+        Side::Left => s.lefth,
+        Side::Right => s.righth,
+    }
+}
+
+// Where a link stands.
+pub fn link_word(link: Link) -> usize
+    requires { ⌜ link .holder ≤ 4095 ⌝ }
+    ensures { λ r. ⌜ r ≡ linkAt link ⌝ }
+{
+    let holder = link.holder;
+    if holder == Link::ROOT {
+        return 0;
+    }
+    let b = 4 + Slot::WORDS * (holder - 1);
+    let side = link.side;
+    match side {
+        Side::Left => b + 3,
+        Side::Right => b + 4,
+    }
+}
+
+// The slot that hangs at a link, 0 for none.
+pub fn link_at(t: &[u32], link: Link) -> usize
+    requires { ⌜ (link .holder ≤ 4095) × (linkAt link < length (now t)) ⌝ }
+    ensures { λ r. ⌜ r ≡ word (now (t .entry)) (linkAt link) ⌝ }
+{
+    let at = link_word(link);
+    wide(t[at])
+}
+
+// Where the register on a side of a slot stands.
+pub fn register_at(k: usize, side: Side) -> usize
+    requires { ⌜ (1 ≤ k) × (k ≤ 4095) ⌝ }
+    ensures { λ r. ⌜ r ≡ registerAt k side ⌝ }
+{
+    let b = 4 + Slot::WORDS * (k - 1);
+    match side {
+        Side::Left => b + 5,
+        Side::Right => b + 6,
+    }
+}

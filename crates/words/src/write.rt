@@ -1,0 +1,61 @@
+// Writing words, slots and links.
+use crate::read::link_word;
+use crate::read::register_at;
+use scope::Link;
+use scope::Side;
+use scope::Slot;
+ghost use mathlib.Core.Path.{_≡_};
+ghost use Prim.Native.Nat.{_≤_, _<_};
+ghost use lib.ListN.{length, set};
+ghost use Rattle.scope.specs.Table.{countWord, changeWord, withSlot, linkAt, registerAt, InTable};
+ghost use Rattle.words.specs.Ready.{Headed};
+
+// All eight words of a slot.
+pub fn put_slot(t: &mut [u32], k: usize, s: Slot)
+    requires { ⌜ InTable (now t) k ⌝ }
+    ensures { λ _. ⌜ now (t .exit) ≡ withSlot (now (t .entry)) k s ⌝ }
+{
+    let b = 4 + Slot::WORDS * (k - 1);
+    t[b] = s.state;
+    t[b + 1] = s.key;
+    t[b + 2] = s.pieces;
+    t[b + 3] = s.left;
+    t[b + 4] = s.right;
+    t[b + 5] = s.lefth;
+    t[b + 6] = s.righth;
+    t[b + 7] = s.last;
+}
+
+// A slot's number in a link.
+pub fn put_link(t: &mut [u32], link: Link, k: usize)
+    requires { ⌜ (link .holder ≤ 4095) × (linkAt link < length (now t)) × (k ≤ 4095) ⌝ }
+    ensures { λ _. ⌜ now (t .exit) ≡ set (now (t .entry)) (linkAt link) k ⌝ }
+{
+    let at = link_word(link);
+    t[at] = k as u32;
+}
+
+// A height in a register.
+pub fn put_register(t: &mut [u32], k: usize, side: Side, height: u32)
+    requires { ⌜ (1 ≤ k) × (k ≤ 4095) × (registerAt k side < length (now t)) ⌝ }
+    ensures { λ _. ⌜ now (t .exit) ≡ set (now (t .entry)) (registerAt k side) height ⌝ }
+{
+    let at = register_at(k, side);
+    t[at] = height;
+}
+
+// How many records there are.
+pub fn put_records(t: &mut [u32], n: usize)
+    requires { ⌜ Headed (now t) × (n ≤ 4095) ⌝ }
+    ensures { λ _. ⌜ now (t .exit) ≡ set (now (t .entry)) countWord n ⌝ }
+{
+    t[1] = n as u32;
+}
+
+// The change number.
+pub fn put_change(t: &mut [u32], change: u32)
+    requires { ⌜ Headed (now t) ⌝ }
+    ensures { λ _. ⌜ now (t .exit) ≡ set (now (t .entry)) changeWord change ⌝ }
+{
+    t[2] = change;
+}
