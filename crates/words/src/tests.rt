@@ -1,9 +1,9 @@
 // The tests of a slot and of the header.
+use crate::read::records;
+use crate::read::root;
 use scope::Height;
 use scope::Slot;
 use scope::State;
-use crate::read::records;
-use crate::read::root;
 ghost use mathlib.Core.Path.{_≡_};
 ghost use Rattle.scope.specs.Fit.{stateOk, piecesOk, linkOk, fitSlot, blankSlot, headerOk};
 ghost use Rattle.words.specs.Ready.{Headed};

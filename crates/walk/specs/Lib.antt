@@ -1,0 +1,2 @@
+-- What the walk promises its callers.
+pub mod Walked

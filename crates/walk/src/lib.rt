@@ -1,0 +1,124 @@
+// The search walk, and the two calls that need nothing else: start and find.
+use scope::Answer;
+use scope::Gate;
+use scope::Link;
+use scope::Refusal;
+use scope::Side;
+use scope::Slot;
+use scope::SlotsIs;
+use scope::Step;
+use scope::Walk;
+ghost use mathlib.Core.Path.{_≡_};
+ghost use lib.ListN.{length, replicate};
+ghost use Rattle.scope.specs.Walk.{stepOf};
+ghost use Rattle.scope.specs.Find.{startAnswer, startTable, foundIn, findAnswer};
+ghost use Rattle.words.specs.Ready.{Sized, Ready};
+ghost use Rattle.walk.specs.Walked.{Walked, Inside};
+
+// What one visited slot says of a key.
+pub fn judge(c: usize, key: u32, s: Slot) -> Step
+    ensures { λ r. ⌜ r ≡ stepOf c key s ⌝ }
+{
+    if words::fit(c, s) {
+        if key == s.key {
+            return Step::Here;
+        }
+        if key < s.key {
+            Step::Down(Side::Left, words::wide(s.left))
+        } else {
+            Step::Down(Side::Right, words::wide(s.right))
+        }
+    } else {
+        Step::Broken
+    }
+}
+
+// Walks from the root to a key, or to the empty link where it would hang.
+pub fn search(t: &[u32], c: usize, key: u32) -> Walk
+    requires { ⌜ Ready (now t) c ⌝ }
+    ensures { λ r. ⌜ Walked (now (t .entry)) c key r ⌝ }
+{
+    let mut at = words::root(t);
+    let mut link = Link {
+        holder: Link::ROOT,
+        side: Side::Left,
+    };
+    let mut seen: usize = 0;
+    loop {
+        if at == 0 {
+            break Walk::Miss { link, seen };
+        }
+        if seen == c {
+            break Walk::Damage;
+        }
+        match judge(c, key, words::slot_at(t, at)) {
+            Step::Broken => break Walk::Damage,
+            Step::Here => {
+                break Walk::Hit {
+                    slot: at,
+                    link,
+                    seen: seen + 1,
+                };
+            }
+            Step::Down(side, next) => {
+                link = Link { holder: at, side };
+                at = next;
+                seen += 1;
+            }
+        }
+    }
+}
+
+// What find answers at a walk's end.
+pub fn found(t: &[u32], c: usize, w: Walk) -> Answer
+    requires { ⌜ Sized (now t) c × Inside c w ⌝ }
+    ensures { λ r. ⌜ r ≡ foundIn (now (t .entry)) w ⌝ }
+{
+    match w {
+        Walk::Damage => words::refuse(Refusal::Damaged),
+        Walk::Miss { .. } => words::refuse(Refusal::KeyAbsent),
+        Walk::Hit { slot, seen, .. } => {
+            let s = words::slot_at(t, slot);
+            words::accept(
+                words::long(words::change(t)),
+                words::long(s.pieces),
+                words::size(seen),
+                words::long(s.state),
+            )
+        }
+    }
+}
+
+// find: the record of a key.
+pub fn find(t: &[u32], key: u32) -> Answer
+    ensures { λ r. ⌜ r ≡ findAnswer (now (t .entry)) key ⌝ }
+{
+    match words::enter(t, key != 0) {
+        Gate::Shut(why) => words::refuse(why),
+        Gate::Open(c) => found(t, c, search(t, c, key)),
+    }
+}
+
+// Zeroes every word.
+pub fn clear(t: &mut [u32])
+    ensures { λ _. ⌜ now (t .exit) ≡ replicate (length (now (t .entry))) 0 ⌝ }
+{
+    let mut i: usize = 0;
+    while i < t.len() {
+        t[i] = 0;
+        i += 1;
+    }
+}
+
+// start: an empty table.
+pub fn start(t: &mut [u32]) -> Answer
+    ensures { λ r. ⌜ (r ≡ startAnswer (now (t .entry))) × (now (t .exit) ≡ startTable (now (t .entry))) ⌝ }
+{
+    match words::capacity(t.len()) {
+        SlotsIs::Outside => words::refuse(Refusal::WrongLength),
+        SlotsIs::Within(_) => {
+            clear(t);
+            words::accept(0, 0, 0, 0)
+        }
+    }
+}
