@@ -1,76 +1,61 @@
+-- `walk::search` meets its contract: the invariant is that the walk is under way (`Going`), and each way out is one law of it. Assumes nothing.
+use Prim.Native.Nat.{_-_}
+use native.Mathlib.Omega.{arith}
+use borrow.Author.Needs.{needs}
+use Rattle.walk.proofs.Going.{Going, going-start, going-miss, going-spent, going-broken, going-hit, going-on}
 use Rattle.walk.proofs.search.Statement.{statement}
 use Rattle.walk.proofs.search.Tie as tie
-use Rattle.walk.proofs.search.Reads as reads
-use Rattle.walk.proofs.search.Lts as lts
-use Rattle.walk.proofs.judge.Reads as judge-reads
-use Rattle.words.proofs.root.Reads as root-reads
-use Rattle.words.proofs.slot_at.Reads as slot-at-reads
 
 abbrev Inv-loop : tie.InvT-loop
-Inv-loop t c key at₀ link₀ seen₀ at link seen = ?
+Inv-loop t c key at₀ link₀ seen₀ at link seen = Going t c key at link seen
 
 abbrev μ-loop : tie.MeasureT-loop
-μ-loop t c key at₀ link₀ seen₀ at link seen = ?
+μ-loop t c key at₀ link₀ seen₀ at link seen = c - seen
 
--- src/lib.rt:41:9
 root-requires : tie.Need-root-requires Inv-loop μ-loop
-root-requires c κs = ?
+root-requires c κs = search needs
 
--- src/lib.rt:47:5
 loop-holds : tie.Need-loop-holds Inv-loop μ-loop
-loop-holds c = ?
+loop-holds c = rw (c .root .ensures) (going-start (c .before .before .pre))
 
--- src/lib.rt:54:29
 slot-at-requires : tie.Need-slot-at-requires Inv-loop μ-loop
-slot-at-requires c κs = ?
+slot-at-requires c κs = search needs
 
--- src/lib.rt:54:15
 judge-requires : tie.Need-judge-requires Inv-loop μ-loop
-judge-requires c κs = ?
+judge-requires c κs = search needs
 
--- src/lib.rt:55:35
 enum-told : tie.Need-enum-told Inv-loop μ-loop
-enum-told c = ?
+enum-told c = search needs
 
--- src/lib.rt:60:27
 enum-told-2 : tie.Need-enum-told-2 Inv-loop μ-loop
-enum-told-2 c = ?
+enum-told-2 c = search needs
 
--- src/lib.rt:60:27
 add-t14 : tie.Need-add-t14 Inv-loop μ-loop
-add-t14 c = ?
+add-t14 c = omega arith
 
--- src/lib.rt:63:24
 enum-known-side : tie.Need-enum-known-side Inv-loop μ-loop
-enum-known-side c = ?
+enum-known-side c = search needs
 
--- src/lib.rt:66:17
 add-seen : tie.Need-add-seen Inv-loop μ-loop
-add-seen c = ?
+add-seen c = omega arith
 
--- src/lib.rt:47:5
 loop-less : tie.Need-loop-less Inv-loop μ-loop
-loop-less c = ?
+loop-less c = omega arith
 
--- src/lib.rt:47:5
 loop-again : tie.Need-loop-again Inv-loop μ-loop
-loop-again c = ?
+loop-again c = going-on (c .before .before .before .before .before .before .before .loop .inv) (c .before .before .before .before .before .before .if1 .left) (c .before .before .before .before .before .if2 .left) (c .before .before .before .before .slot-at .ensures) (c .before .before .before .judge .ensures) (c .before .side .given .1)
 
--- src/lib.rt:37:1
 returns : tie.Need-returns Inv-loop μ-loop
-returns c = ?
+returns c = going-miss (c .before .loop .inv) (c .if1 .taken)
 
--- src/lib.rt:37:1
 returns-2 : tie.Need-returns-2 Inv-loop μ-loop
-returns-2 c = ?
+returns-2 c = going-spent (c .before .before .loop .inv) (c .before .if1 .left) (c .if2 .taken)
 
--- src/lib.rt:37:1
 returns-3 : tie.Need-returns-3 Inv-loop μ-loop
-returns-3 c = ?
+returns-3 c = going-broken (c .before .before .before .before .before .before .loop .inv) (c .before .before .before .before .before .if1 .left) (c .before .before .before .before .if2 .left) (c .before .before .before .slot-at .ensures) (c .before .before .judge .ensures) (c .enum-told .given .1)
 
--- src/lib.rt:37:1
 returns-4 : tie.Need-returns-4 Inv-loop μ-loop
-returns-4 c = ?
+returns-4 c = going-hit (c .before .before .before .before .before .before .loop .inv) (c .before .before .before .before .before .if1 .left) (c .before .before .before .before .if2 .left) (c .before .before .before .slot-at .ensures) (c .before .before .judge .ensures) (c .enum-told2 .given .1)
 
 pub search-spec : {M : Type 1} → statement M
 search-spec =

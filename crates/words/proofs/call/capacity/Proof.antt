@@ -1,23 +1,18 @@
-use Rattle.scope.specs.Table.{slotsIn}
+-- `words::call::capacity` meets its contract. Assumes nothing.
 use mathlib.Core.Path.{sym}
 use borrow.Author.Tests.{eq-eqb, ne-eqb}
 use borrow.Author.Needs.{needs}
+use Rattle.scope.specs.Table.{slotsIn}
 use Rattle.words.proofs.call.capacity.Statement.{statement}
 use Rattle.words.proofs.call.capacity.Tie as tie
-use Rattle.words.proofs.call.capacity.Reads as reads
-use Rattle.words.proofs.call.capacity.Lts as lts
-use Rattle.scope.proofs.slots.Slots.of.Reads as of-reads
 
--- src/call.rt:20:9
 of-requires : tie.Need-of-requires
 of-requires c κs = search needs
 
--- src/call.rt:16:1
 returns : tie.Need-returns
 unfolding slotsIn
 returns c = simp (eq-eqb _ _ (c .before .if1 .taken), sym (c .of .ensures))
 
--- src/call.rt:16:1
 returns-2 : tie.Need-returns-2
 unfolding slotsIn
 returns-2 c = simp (ne-eqb _ _ (c .if1 .left))

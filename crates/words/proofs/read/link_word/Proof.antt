@@ -1,50 +1,39 @@
-use Rattle.scope.specs.Table.{linkAt}
+-- `words::read::link_word` meets its contract. Assumes nothing.
 use borrow.Author.Tests.{eq-eqb, ne-eqb}
 use borrow.Author.Needs.{needs}
+use Rattle.scope.specs.Table.{linkAt}
 use Rattle.words.proofs.read.link_word.Statement.{statement}
 use Rattle.words.proofs.read.link_word.Tie as tie
-use Rattle.words.proofs.read.link_word.Reads as reads
-use Rattle.words.proofs.read.link_word.Lts as lts
 
--- src/read.rt:109:9
 returns : tie.Need-returns
 unfolding linkAt
 returns c = simp (eq-eqb _ _ (c .if1 .taken))
 
--- src/read.rt:111:32
 sub-b : tie.Need-sub-b
 sub-b c = search needs
 
--- src/read.rt:111:17
 mul-b : tie.Need-mul-b
 mul-b c = search needs
 
--- src/read.rt:111:13
 add-b : tie.Need-add-b
 add-b c = search needs
 
--- src/read.rt:114:23
 enum-told : tie.Need-enum-told
 enum-told c = search needs
 
--- src/read.rt:114:23
 add-result : tie.Need-add-result
 add-result c = search needs
 
--- src/read.rt:115:24
 enum-told-2 : tie.Need-enum-told-2
 enum-told-2 c = search needs
 
--- src/read.rt:115:24
 add-result-2 : tie.Need-add-result-2
 add-result-2 c = search needs
 
--- src/read.rt:103:1
 returns-2 : tie.Need-returns-2
 unfolding linkAt
 returns-2 c = simp (ne-eqb _ _ (c .before .before .if1 .left), c .enum-told .given .1)
 
--- src/read.rt:103:1
 returns-3 : tie.Need-returns-3
 unfolding linkAt
 returns-3 c = simp (ne-eqb _ _ (c .before .before .if1 .left), c .enum-told2 .given .1)

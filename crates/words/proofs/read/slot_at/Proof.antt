@@ -1,115 +1,87 @@
-use Rattle.scope.specs.Table.{slotAt}
+-- `words::read::slot_at` meets its contract. Assumes nothing.
 use borrow.Author.Needs.{needs}
+use Rattle.scope.specs.Table.{slotAt}
 use Rattle.words.proofs.read.slot_at.Statement.{statement}
 use Rattle.words.proofs.read.slot_at.Tie as tie
-use Rattle.words.proofs.read.slot_at.Reads as reads
-use Rattle.words.proofs.read.slot_at.Lts as lts
 
--- src/read.rt:61:32
 sub-b : tie.Need-sub-b
 sub-b c = search needs
 
--- src/read.rt:61:17
 mul-b : tie.Need-mul-b
 mul-b c = search needs
 
--- src/read.rt:61:13
 add-b : tie.Need-add-b
 add-b c = search needs
 
--- src/read.rt:63:16
 mul-t4 : tie.Need-mul-t4
 mul-t4 c = search needs
 
--- src/read.rt:63:16
 shared-slice-read-t7 : tie.Need-shared-slice-read-t7
 shared-slice-read-t7 c = search needs
 
--- src/read.rt:64:16
 add-t5 : tie.Need-add-t5
 add-t5 c = search needs
 
--- src/read.rt:64:14
 mul-t8 : tie.Need-mul-t8
 mul-t8 c = search needs
 
--- src/read.rt:64:14
 shared-slice-read-t10 : tie.Need-shared-slice-read-t10
 shared-slice-read-t10 c = search needs
 
--- src/read.rt:65:19
 add-t11 : tie.Need-add-t11
 add-t11 c = search needs
 
--- src/read.rt:65:17
 mul-t12 : tie.Need-mul-t12
 mul-t12 c = search needs
 
--- src/read.rt:65:17
 shared-slice-read-t14 : tie.Need-shared-slice-read-t14
 shared-slice-read-t14 c = search needs
 
--- src/read.rt:66:17
 add-t15 : tie.Need-add-t15
 add-t15 c = search needs
 
--- src/read.rt:66:15
 mul-t16 : tie.Need-mul-t16
 mul-t16 c = search needs
 
--- src/read.rt:66:15
 shared-slice-read-t18 : tie.Need-shared-slice-read-t18
 shared-slice-read-t18 c = search needs
 
--- src/read.rt:67:18
 add-t19 : tie.Need-add-t19
 add-t19 c = search needs
 
--- src/read.rt:67:16
 mul-t20 : tie.Need-mul-t20
 mul-t20 c = search needs
 
--- src/read.rt:67:16
 shared-slice-read-t22 : tie.Need-shared-slice-read-t22
 shared-slice-read-t22 c = search needs
 
--- src/read.rt:68:18
 add-t23 : tie.Need-add-t23
 add-t23 c = search needs
 
--- src/read.rt:68:16
 mul-t24 : tie.Need-mul-t24
 mul-t24 c = search needs
 
--- src/read.rt:68:16
 shared-slice-read-t26 : tie.Need-shared-slice-read-t26
 shared-slice-read-t26 c = search needs
 
--- src/read.rt:69:19
 add-t27 : tie.Need-add-t27
 add-t27 c = search needs
 
--- src/read.rt:69:17
 mul-t28 : tie.Need-mul-t28
 mul-t28 c = search needs
 
--- src/read.rt:69:17
 shared-slice-read-t30 : tie.Need-shared-slice-read-t30
 shared-slice-read-t30 c = search needs
 
--- src/read.rt:70:17
 add-t31 : tie.Need-add-t31
 add-t31 c = search needs
 
--- src/read.rt:70:15
 mul-t32 : tie.Need-mul-t32
 mul-t32 c = search needs
 
--- src/read.rt:70:15
 shared-slice-read-t34 : tie.Need-shared-slice-read-t34
 shared-slice-read-t34 c = search needs
 
--- src/read.rt:57:1
 returns : tie.Need-returns
 unfolding slotAt
 returns c = search needs

@@ -1,16 +1,13 @@
-use Rattle.scope.specs.Numbers.{heightOf}
+-- `scope::height::Height::of` meets its contract. Assumes nothing.
 use borrow.Author.Tests.{le-leb, lt-leb}
+use Rattle.scope.specs.Numbers.{heightOf}
 use Rattle.scope.proofs.height.Height.of.Statement.{statement}
 use Rattle.scope.proofs.height.Height.of.Tie as tie
-use Rattle.scope.proofs.height.Height.of.Reads as reads
-use Rattle.scope.proofs.height.Height.of.Lts as lts
 
--- src/height.rt:18:5
 returns : tie.Need-returns
 unfolding heightOf
 returns c = simp (le-leb _ _ (c .if1 .taken))
 
--- src/height.rt:18:5
 returns-2 : tie.Need-returns-2
 unfolding heightOf
 returns-2 c = simp (lt-leb _ _ (c .if1 .left))

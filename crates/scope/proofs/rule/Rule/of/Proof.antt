@@ -1,85 +1,66 @@
-use Rattle.scope.specs.Numbers.{ruleOf}
+-- `scope::rule::Rule::of` meets its contract. Assumes nothing.
 use borrow.Author.Tests.{ne-eqb}
 use borrow.Author.Needs.{needs}
+use Rattle.scope.specs.Numbers.{ruleOf}
 use Rattle.scope.proofs.rule.Rule.of.Statement.{statement}
 use Rattle.scope.proofs.rule.Rule.of.Tie as tie
-use Rattle.scope.proofs.rule.Rule.of.Reads as reads
-use Rattle.scope.proofs.rule.Rule.of.Lts as lts
-use Rattle.scope.proofs.rule.known.Reads as known-reads
 
--- src/rule.rt:52:25
 known-requires : tie.Need-known-requires
 known-requires c κs = search needs
 
--- src/rule.rt:53:25
 known-requires-2 : tie.Need-known-requires-2
 known-requires-2 c κs = search needs
 
--- src/rule.rt:54:30
 known-requires-3 : tie.Need-known-requires-3
 known-requires-3 c κs = search needs
 
--- src/rule.rt:55:30
 known-requires-4 : tie.Need-known-requires-4
 known-requires-4 c κs = search needs
 
--- src/rule.rt:56:30
 known-requires-5 : tie.Need-known-requires-5
 known-requires-5 c κs = search needs
 
--- src/rule.rt:57:30
 known-requires-6 : tie.Need-known-requires-6
 known-requires-6 c κs = search needs
 
--- src/rule.rt:58:26
 known-requires-7 : tie.Need-known-requires-7
 known-requires-7 c κs = search needs
 
--- src/rule.rt:59:26
 known-requires-8 : tie.Need-known-requires-8
 known-requires-8 c κs = search needs
 
--- src/rule.rt:48:5
 returns : tie.Need-returns
 unfolding ruleOf
 returns c = rw (c .before .match .keys1) (c .known .ensures)
 
--- src/rule.rt:48:5
 returns-2 : tie.Need-returns-2
 unfolding ruleOf
 returns-2 c = rw (c .before .match .keys2) (c .known2 .ensures)
 
--- src/rule.rt:48:5
 returns-3 : tie.Need-returns-3
 unfolding ruleOf
 returns-3 c = rw (c .before .match .keys3) (c .known3 .ensures)
 
--- src/rule.rt:48:5
 returns-4 : tie.Need-returns-4
 unfolding ruleOf
 returns-4 c = rw (c .before .match .keys4) (c .known4 .ensures)
 
--- src/rule.rt:48:5
 returns-5 : tie.Need-returns-5
 unfolding ruleOf
 returns-5 c = rw (c .before .match .keys5) (c .known5 .ensures)
 
--- src/rule.rt:48:5
 returns-6 : tie.Need-returns-6
 unfolding ruleOf
 returns-6 c = rw (c .before .match .keys6) (c .known6 .ensures)
 
--- src/rule.rt:48:5
 returns-7 : tie.Need-returns-7
 unfolding ruleOf
 returns-7 c = rw (c .before .match .keys7) (c .known7 .ensures)
 
--- src/rule.rt:48:5
 returns-8 : tie.Need-returns-8
 unfolding ruleOf
 returns-8 c = rw (c .before .match .keys8) (c .known8 .ensures)
 
--- src/rule.rt:48:5
 returns-9 : tie.Need-returns-9
 unfolding ruleOf
 returns-9 c = simp (ne-eqb _ _ (c .match .rest .0 .0 .0 .0 .0 .0 .0 .1), ne-eqb _ _ (c .match .rest .0 .0 .0 .0 .0 .0 .1), ne-eqb _ _ (c .match .rest .0 .0 .0 .0 .0 .1), ne-eqb _ _ (c .match .rest .0 .0 .0 .0 .1), ne-eqb _ _ (c .match .rest .0 .0 .0 .1), ne-eqb _ _ (c .match .rest .0 .0 .1), ne-eqb _ _ (c .match .rest .0 .1), ne-eqb _ _ (c .match .rest .1))

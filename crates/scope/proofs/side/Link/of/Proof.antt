@@ -1,41 +1,32 @@
-use Rattle.scope.specs.Numbers.{linkOf}
-use borrow.Author.Tests.{lt-ltb, le-ltb}
+-- `scope::side::Link::of` meets its contract. Assumes nothing.
 use mathlib.Core.Path.{sym}
+use borrow.Author.Tests.{lt-ltb, le-ltb}
 use borrow.Author.Needs.{needs}
+use Rattle.scope.specs.Numbers.{linkOf}
 use Rattle.scope.proofs.side.Link.of.Statement.{statement}
 use Rattle.scope.proofs.side.Link.of.Tie as tie
-use Rattle.scope.proofs.side.Link.of.Reads as reads
-use Rattle.scope.proofs.side.Link.of.Lts as lts
-use Rattle.scope.proofs.side.Side.of.Reads as of-reads
 
--- src/side.rt:61:13
 returns : tie.Need-returns
 unfolding linkOf
 returns c = simp (lt-ltb _ _ (c .if1 .taken))
 
--- src/side.rt:63:15
 of-requires : tie.Need-of-requires
 of-requires c κs = search needs
 
--- src/side.rt:64:32
 enum-told : tie.Need-enum-told
 enum-told c = search needs
 
--- src/side.rt:65:27
 enum-known-on : tie.Need-enum-known-on
 enum-known-on c = search needs
 
--- src/side.rt:56:5
 returns-2 : tie.Need-returns-2
 unfolding linkOf
 returns-2 c = simp (le-ltb _ _ (c .before .before .before .if1 .left), sym (c .before .before .of .ensures), c .enum-told .given .1)
 
--- src/side.rt:56:5
 returns-3 : tie.Need-returns-3
 unfolding linkOf
 returns-3 c = simp (le-ltb _ _ (c .before .before .before .before .before .if1 .left), sym (c .before .before .before .before .of .ensures), c .before .before .on .given .1, c .if2 .taken)
 
--- src/side.rt:56:5
 returns-4 : tie.Need-returns-4
 unfolding linkOf
 returns-4 c = simp (le-ltb _ _ (c .before .before .before .before .before .if1 .left), sym (c .before .before .before .before .of .ensures), c .before .before .on .given .1, c .if2 .left)

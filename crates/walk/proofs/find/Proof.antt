@@ -1,0 +1,46 @@
+-- `walk::find` meets its contract. Assumes nothing.
+use mathlib.Core.Path.{_∙_, sym}
+use borrow.Author.Needs.{needs}
+use Rattle.words.proofs.Laws.{gate-ready}
+use Rattle.scope.specs.Find.{findAnswer}
+use Rattle.walk.proofs.find.Statement.{statement}
+use Rattle.walk.proofs.find.Tie as tie
+
+enter-requires : tie.Need-enter-requires
+enter-requires c κs = search needs
+
+enum-known-why : tie.Need-enum-known-why
+enum-known-why c = search needs
+
+refuse-requires : tie.Need-refuse-requires
+refuse-requires c κs = search needs
+
+enum-known-c : tie.Need-enum-known-c
+enum-known-c c = search needs
+
+search-requires : tie.Need-search-requires
+search-requires c κs = gate-ready _ _ _ (sym (c .before .before .before .enter .ensures) ∙ c .before .c .given .1)
+
+found-requires : tie.Need-found-requires
+found-requires c κs = (gate-ready _ _ _ (sym (c .before .before .before .before .enter .ensures) ∙ c .before .before .c .given .1) .sized, c .search .ensures .inside)
+
+returns : tie.Need-returns
+unfolding findAnswer
+returns c = simp (sym (c .before .before .before .before .enter .ensures), c .before .before .why .given .1, sym (c .refuse .ensures))
+
+returns-2 : tie.Need-returns-2
+unfolding findAnswer
+returns-2 c = simp (sym (c .before .before .before .before .before .enter .ensures), c .before .before .before .c .given .1, sym (c .before .search .ensures .is), sym (c .found .ensures))
+
+pub find-spec : {M : Type 1} → statement M
+find-spec =
+    tie.close
+    (tie.spec
+    enter-requires
+    enum-known-why
+    refuse-requires
+    enum-known-c
+    search-requires
+    found-requires
+    returns
+    returns-2)

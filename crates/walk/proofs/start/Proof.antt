@@ -1,0 +1,49 @@
+-- `walk::start` meets its contract. Assumes nothing.
+use mathlib.Core.Path.{_∙_, ap, sym}
+use denote.Ref.{now}
+use borrow.Author.Needs.{needs}
+use Rattle.scope.specs.Answers.{Done}
+use Rattle.walk.proofs.Started.{start-shut, start-open}
+use Rattle.walk.proofs.start.Statement.{statement}
+use Rattle.walk.proofs.start.Tie as tie
+
+capacity-requires : tie.Need-capacity-requires
+capacity-requires c κs = search needs
+
+enum-told : tie.Need-enum-told
+enum-told c = search needs
+
+refuse-requires : tie.Need-refuse-requires
+refuse-requires c κs = search needs
+
+enum-told-2 : tie.Need-enum-told-2
+enum-told-2 c = search needs
+
+clear-requires : tie.Need-clear-requires
+clear-requires c κs = search needs
+
+accept-requires : tie.Need-accept-requires
+accept-requires c κs = search needs
+
+returns : tie.Need-returns
+returns c = let e = sym (start-shut (now (c .before .before .before .before .before .args .t)) (sym (c .before .before .before .capacity .ensures) ∙ c .before .enum-told .given .1)) in (c .refuse .ensures ∙ ap (λ (d : Done). d .answer) e, ap (λ (d : Done). d .words) e)
+
+same-length : tie.Need-same-length
+same-length c = search needs
+
+returns-2 : tie.Need-returns-2
+returns-2 c = let e = sym (start-open (now (c .before .before .before .before .before .before .before .before .before .args .t)) _ (sym (c .before .before .before .before .before .before .before .capacity .ensures) ∙ c .before .before .before .before .before .enum-told2 .given .1)) in (c .accept .ensures ∙ ap (λ (d : Done). d .answer) e, c .before .before .before .clear .ensures ∙ ap (λ (d : Done). d .words) e)
+
+pub start-spec : {M : Type 1} → statement M
+start-spec =
+    tie.close
+    (tie.spec
+    capacity-requires
+    enum-told
+    refuse-requires
+    enum-told-2
+    clear-requires
+    accept-requires
+    returns
+    same-length
+    returns-2)
