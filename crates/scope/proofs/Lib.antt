@@ -1,4 +1,9 @@
--- What is proved of the definitions by themselves: the marked examples, more examples, and that a promise leaves nothing open.
+-- What is proved of the definitions by themselves: they compute the examples, and a promise leaves nothing open.
 pub mod Bools
 pub mod Script
 pub mod Marked
+pub mod Further
+pub mod Refusals
+pub mod Damage
+pub mod Computed
+pub mod Determined

@@ -1,25 +1,12 @@
--- M1 to M8 of document 01 as one table under one theorem, and its worked case (sections "Marked examples" and "The program"). Assumes nothing.
+-- M1 to M8 of document 01, and its worked case, as tables of examples (sections "Marked examples" and "The program"). Assumes nothing.
 use Prim.Native.Nat.{ℕ}
-use mathlib.Core.Path.{_≡_, refl}
-use mathlib.Core.List.{List, [], _∷_, _++_, map}
+use mathlib.Core.List.{List, [], _∷_, _++_}
 use lib.ListN.{set, take}
+use Rattle.scope.specs.Table.{registerAt}
+use Rattle.scope.specs.Tidy.{rulesFired}
+use Rattle.scope.specs.Calls.{Call, post, drop, total, worth, fire, tidy, after}
 use Rattle.scope.specs.declared.side.Side.the-variants.{Left}
-use Rattle.scope.specs.Numbers.{ruleOf, sideOf, linkOf, slotsOf}
-use Rattle.scope.specs.Table.{slotsIn, slotAt, withSlot, linkAt, registerAt, written}
-use Rattle.scope.specs.Fit.{stateOk, piecesOk, linkOk, fitSlot, blankSlot, headerOk}
-use Rattle.scope.specs.Tree.{size, inOrder, times, below, above, ordered}
-use Rattle.scope.specs.Sound.{treeOf, slotOk, slotsOk, soundTree, soundTable}
-use Rattle.scope.specs.Answers.{gate}
-use Rattle.scope.specs.Walk.{stepOf, walkFrom, walkOf}
-use Rattle.scope.specs.Post.{recordOk, freeFrom, freeSlot, hangAt, postingAt, postPlan, hung, posted, postOf}
-use Rattle.scope.specs.Drop.{leftmostFrom, ifMay, dropAt, droppingAt, dropPlan, relinked, dropped, dropOf}
-use Rattle.scope.specs.Sums.{totalOf, totalAnswer}
-use Rattle.scope.specs.Worth.{negOf, posOf, NEG, POS, BAL, RBAL, worthOf, worthAnswer}
-use Rattle.scope.specs.Rules.{guardAt, highestAt, actionAt}
-use Rattle.scope.specs.Fire.{takeOf, judged, aimW, aimU, aimV, aim, aimed, firePlan, fired, fireOf}
-use Rattle.scope.specs.Tidy.{holdsAt, dueAt, holds, due, rulesFrom, slotsFrom, nextOf, quiet, linkFrom, linkTo, firedAt, tidyFrom, tidied, tidyOf, rulesFired}
-use Rattle.scope.specs.Calls.{Call, post, drop, total, worth, fire, tidy, done, answers, after}
-use Rattle.scope.proofs.Script.{fresh, poured, fives, codes, values, header, slot, Row, row, rows}
+use Rattle.scope.proofs.Script.{fresh, poured, fives, codes, values, header, slot, Row, row}
 
 -- the three postings of the worked case, and what tidying makes of them
 abbrev day : List Call
@@ -45,8 +32,8 @@ m5 = after (day ++ (tidy 10 ∷ drop 510 ∷ [])) (fresh 3)
 abbrev m6 : ℕ → List ℕ
 m6 h = set (after (poured (30 ∷ 20 ∷ 10 ∷ [])) (fresh 3)) (registerAt 2 Left) h
 
-abbrev table : List Row
-table =
+abbrev pub marked : List Row
+marked =
     -- M1
     row (rulesFired 10 3 m1) (2 ∷ 2 ∷ 2 ∷ 4 ∷ [])
     ∷ row (values oneByOne m1) (18 ∷ 1 ∷ 14 ∷ 1 ∷ 10 ∷ 1 ∷ 7 ∷ 1 ∷ 0 ∷ [])
@@ -73,13 +60,9 @@ table =
     ∷ row (codes (fire 1 2 0 ∷ []) (after (poured (40 ∷ [])) (fresh 3))) (8 ∷ [])
     ∷ []
 
-pub marked : map (λ r. r .given) table ≡ map (λ r. r .stated) table
-unfolding ruleOf sideOf linkOf slotsOf slotsIn slotAt withSlot linkAt written stateOk piecesOk linkOk fitSlot blankSlot headerOk size inOrder times below above ordered treeOf slotOk slotsOk soundTree soundTable gate stepOf walkFrom walkOf recordOk freeFrom freeSlot hangAt postingAt postPlan hung posted postOf leftmostFrom ifMay dropAt droppingAt dropPlan relinked dropped dropOf totalOf totalAnswer negOf posOf NEG POS BAL RBAL worthOf worthAnswer guardAt highestAt actionAt takeOf judged aimW aimU aimV aim aimed firePlan fired fireOf holdsAt dueAt holds due rulesFrom slotsFrom nextOf quiet linkFrom linkTo firedAt tidyFrom tidied tidyOf rulesFired done answers after
-marked = rows table refl
-
 -- the worked case of the program `stand`, whose table has 15 slots: five calls, and the words that its list shows
-abbrev case : List Row
-case =
+abbrev pub worked : List Row
+worked =
     row (fives (day ++ (worth ∷ tidy 10 ∷ [])) (fresh 15))
     (0 ∷ 1 ∷ 1 ∷ 0 ∷ 0
     ∷ 0 ∷ 2 ∷ 2 ∷ 0 ∷ 0
@@ -94,7 +77,3 @@ case =
     ∷ 1 ∷ 540 ∷ 750 ∷ 0 ∷ 0 ∷ 0 ∷ 0 ∷ 0
     ∷ [])
     ∷ []
-
-pub worked : map (λ r. r .given) case ≡ map (λ r. r .stated) case
-unfolding ruleOf sideOf linkOf slotsOf slotsIn slotAt withSlot linkAt written stateOk piecesOk linkOk fitSlot blankSlot headerOk size inOrder times below above ordered treeOf slotOk slotsOk soundTree soundTable gate stepOf walkFrom walkOf recordOk freeFrom freeSlot hangAt postingAt postPlan hung posted postOf leftmostFrom ifMay dropAt droppingAt dropPlan relinked dropped dropOf totalOf totalAnswer negOf posOf NEG POS BAL RBAL worthOf worthAnswer guardAt highestAt actionAt takeOf judged aimW aimU aimV aim aimed firePlan fired fireOf holdsAt dueAt holds due rulesFrom slotsFrom nextOf quiet linkFrom linkTo firedAt tidyFrom tidied tidyOf rulesFired done answers after
-worked = rows case refl

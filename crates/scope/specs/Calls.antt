@@ -1,15 +1,15 @@
 -- The eleven calls as one type, and a list of them carried out one after the other (document 01, "Calls and what they answer").
 use Prim.Native.Nat.{ℕ}
+use mathlib.Core.Path.{_≡_}
 use mathlib.Core.List.{List, [], _∷_}
-use Rattle.scope.specs.Answers.{Done}
-use Rattle.scope.specs.Find.{startOf, findAnswer}
-use Rattle.scope.specs.Post.{postOf}
-use Rattle.scope.specs.Amend.{amendOf}
-use Rattle.scope.specs.Drop.{dropOf}
+use Rattle.scope.specs.Find.{startAnswer, startTable, findAnswer}
+use Rattle.scope.specs.Post.{postAnswer, postTable}
+use Rattle.scope.specs.Amend.{amendAnswer, amendTable}
+use Rattle.scope.specs.Drop.{dropAnswer, dropTable}
 use Rattle.scope.specs.Sums.{checkAnswer, rankAnswer, totalAnswer}
 use Rattle.scope.specs.Worth.{worthAnswer}
-use Rattle.scope.specs.Fire.{fireOf}
-use Rattle.scope.specs.Tidy.{tidyOf}
+use Rattle.scope.specs.Fire.{fireAnswer, fireTable}
+use Rattle.scope.specs.Tidy.{tidyAnswer, tidyTable}
 use Rattle.scope.specs.declared.answer.Answer.{Answer}
 
 pub data Call : Type 0 where
@@ -25,28 +25,44 @@ pub data Call : Type 0 where
   fire : ℕ → ℕ → ℕ → Call
   tidy : ℕ → Call
 
--- a call that only answers leaves the table as it is
-abbrev pub answered : List ℕ → Answer → Done
-answered t a = record { answer = a; words = t }
+-- what each call answers
+unfoldable pub answerOf : Call → List ℕ → Answer
+answerOf start t = startAnswer t
+answerOf check t = checkAnswer t
+answerOf (find key) t = findAnswer t key
+answerOf (post key pieces state) t = postAnswer t key pieces state
+answerOf (amend key pieces state) t = amendAnswer t key pieces state
+answerOf (drop key) t = dropAnswer t key
+answerOf (rank r) t = rankAnswer t r
+answerOf (total K) t = totalAnswer t K
+answerOf worth t = worthAnswer t
+answerOf (fire rule holder side) t = fireAnswer t rule holder side
+answerOf (tidy budget) t = tidyAnswer t budget
 
-unfoldable pub done : Call → List ℕ → Done
-done start t = startOf t
-done check t = answered t (checkAnswer t)
-done (find key) t = answered t (findAnswer t key)
-done (post key pieces state) t = postOf t key pieces state
-done (amend key pieces state) t = amendOf t key pieces state
-done (drop key) t = dropOf t key
-done (rank r) t = answered t (rankAnswer t r)
-done (total K) t = answered t (totalAnswer t K)
-done worth t = answered t (worthAnswer t)
-done (fire rule holder side) t = fireOf t rule holder side
-done (tidy budget) t = tidyOf t budget
+-- the table after each call; five of them only answer
+unfoldable pub tableOf : Call → List ℕ → List ℕ
+tableOf start t = startTable t
+tableOf check t = t
+tableOf (find key) t = t
+tableOf (post key pieces state) t = postTable t key pieces state
+tableOf (amend key pieces state) t = amendTable t key pieces state
+tableOf (drop key) t = dropTable t key
+tableOf (rank r) t = t
+tableOf (total K) t = t
+tableOf worth t = t
+tableOf (fire rule holder side) t = fireTable t rule holder side
+tableOf (tidy budget) t = tidyTable t budget
+
+-- what each call promises of its answer r and of the table u that it leaves, for any words and arguments
+pub record Promise (x : Call) (t : List ℕ) (r : Answer) (u : List ℕ) : Type 0 where
+  pub answer : r ≡ answerOf x t
+  pub words : u ≡ tableOf x t
 
 -- the answers of a list of calls, and the table after all of them
 unfoldable pub answers : List Call → List ℕ → List Answer
 answers [] t = []
-answers (x ∷ xs) t = done x t .answer ∷ answers xs (done x t .words)
+answers (x ∷ xs) t = answerOf x t ∷ answers xs (tableOf x t)
 
 unfoldable pub after : List Call → List ℕ → List ℕ
 after [] t = t
-after (x ∷ xs) t = after xs (done x t .words)
+after (x ∷ xs) t = after xs (tableOf x t)

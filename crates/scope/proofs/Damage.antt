@@ -1,0 +1,68 @@
+-- Examples on damaged words: the stated walk and writes decide them too. Assumes nothing.
+use Prim.Native.Nat.{ℕ}
+use mathlib.Core.List.{List, [], _∷_}
+use lib.ListN.{replicate}
+use Rattle.scope.specs.Calls.{Call, check, find, post, amend, drop, rank, total, worth, fire, tidy, after}
+use Rattle.scope.proofs.Script.{fives, codes, header, slot, Row, row}
+
+abbrev blank : List ℕ
+blank = replicate 8 0
+
+-- slot 1 is its own left son; slot 2 is free
+abbrev ring : List ℕ
+ring = 1 ∷ 1 ∷ 6 ∷ 0 ∷ 1 ∷ 40 ∷ 9 ∷ 1 ∷ 0 ∷ 3 ∷ 0 ∷ 0 ∷ blank
+
+-- a header whose last word is not 0
+abbrev torn : List ℕ
+torn = 1 ∷ 1 ∷ 6 ∷ 5 ∷ 1 ∷ 40 ∷ 9 ∷ 0 ∷ 0 ∷ 0 ∷ 0 ∷ 0 ∷ blank
+
+-- the second record has no pieces
+abbrev unfit : List ℕ
+unfit = 1 ∷ 2 ∷ 6 ∷ 0 ∷ 1 ∷ 40 ∷ 9 ∷ 2 ∷ 0 ∷ 1 ∷ 0 ∷ 0 ∷ 1 ∷ 20 ∷ 0 ∷ 0 ∷ 0 ∷ 0 ∷ 0 ∷ 0 ∷ []
+
+-- one record, with `count` in word 1 and `key` left standing in the free slot
+abbrev stale : ℕ → ℕ → List ℕ
+stale count key = 1 ∷ count ∷ 6 ∷ 0 ∷ 1 ∷ 40 ∷ 9 ∷ 0 ∷ 0 ∷ 0 ∷ 0 ∷ 0 ∷ 0 ∷ key ∷ 0 ∷ 0 ∷ 0 ∷ 0 ∷ 0 ∷ 0 ∷ []
+
+-- both slots taken, the second not reached
+abbrev lost : List ℕ
+lost = 1 ∷ 1 ∷ 6 ∷ 0 ∷ 1 ∷ 40 ∷ 9 ∷ 0 ∷ 0 ∷ 0 ∷ 0 ∷ 0 ∷ 1 ∷ 20 ∷ 8 ∷ 0 ∷ 0 ∷ 0 ∷ 0 ∷ 0 ∷ []
+
+-- two sons, of which the right one is its own left son
+abbrev deep : List ℕ
+deep =
+    1 ∷ 3 ∷ 6 ∷ 0
+    ∷ 1 ∷ 40 ∷ 9 ∷ 2 ∷ 3 ∷ 0 ∷ 0 ∷ 0
+    ∷ 1 ∷ 20 ∷ 8 ∷ 0 ∷ 0 ∷ 0 ∷ 0 ∷ 0
+    ∷ 1 ∷ 60 ∷ 7 ∷ 3 ∷ 0 ∷ 0 ∷ 0 ∷ 0
+    ∷ []
+
+abbrev pub damage : List Row
+damage =
+    -- calls that want a sound table say 3
+    row (codes (check ∷ rank 1 ∷ total 9 ∷ worth ∷ tidy 0 ∷ []) ring) (replicate 5 3)
+    -- but an argument out of range comes first
+    ∷ row (codes (rank 0 ∷ find 0 ∷ drop 0 ∷ []) torn) (replicate 3 2)
+    ∷ row (codes (find 40 ∷ post 50 1 1 ∷ amend 40 1 1 ∷ drop 40 ∷ fire 1 0 0 ∷ []) torn) (replicate 5 3)
+    -- find: the ring is walked until the slots are spent; what lies on the way is found
+    ∷ row (fives (find 40 ∷ find 30 ∷ find 50 ∷ []) ring) (0 ∷ 6 ∷ 9 ∷ 1 ∷ 1 ∷ 3 ∷ 0 ∷ 0 ∷ 0 ∷ 0 ∷ 5 ∷ 0 ∷ 0 ∷ 0 ∷ 0 ∷ [])
+    ∷ row (codes (find 40 ∷ find 20 ∷ find 30 ∷ []) unfit) (0 ∷ 3 ∷ 3 ∷ [])
+    -- post: a free slot that is not eight zeros, a count that is already full, no free slot whatever the count
+    ∷ row (codes (post 50 1 1 ∷ []) (stale 1 0)) (0 ∷ [])
+    ∷ row (codes (post 50 1 1 ∷ []) (stale 1 77)) (3 ∷ [])
+    ∷ row (codes (post 50 1 1 ∷ []) (stale 2 0)) (3 ∷ [])
+    ∷ row (codes (post 40 1 1 ∷ []) (stale 2 77)) (4 ∷ [])
+    ∷ row (codes (post 50 1 1 ∷ []) lost) (6 ∷ [])
+    ∷ row (fives (post 50 4 2 ∷ []) ring) (0 ∷ 7 ∷ 2 ∷ 0 ∷ 0 ∷ [])
+    ∷ row (slot 1 (after (post 50 4 2 ∷ []) ring)) (1 ∷ 40 ∷ 9 ∷ 1 ∷ 2 ∷ 3 ∷ 0 ∷ 0 ∷ [])
+    -- drop: a son that is the record itself takes the link, and then its slot is zeroed
+    ∷ row (fives (drop 40 ∷ []) ring) (0 ∷ 7 ∷ 1 ∷ 0 ∷ 0 ∷ [])
+    ∷ row (header (after (drop 40 ∷ []) ring)) (1 ∷ 0 ∷ 7 ∷ 0 ∷ [])
+    ∷ row (slot 1 (after (drop 40 ∷ []) ring)) blank
+    -- a record that no count knows of, a leftmost that is never reached
+    ∷ row (codes (drop 40 ∷ drop 7 ∷ amend 40 1 1 ∷ []) (stale 0 0)) (3 ∷ 5 ∷ 0 ∷ [])
+    ∷ row (codes (drop 40 ∷ drop 20 ∷ []) deep) (3 ∷ 0 ∷ [])
+    -- fire: an unfit node, a node that is its own son, a missing node, a free holder before all of these
+    ∷ row (codes (fire 1 0 0 ∷ fire 2 0 0 ∷ []) unfit) (3 ∷ 8 ∷ [])
+    ∷ row (codes (fire 1 0 0 ∷ fire 1 1 0 ∷ fire 1 2 0 ∷ []) ring) (3 ∷ 3 ∷ 8 ∷ [])
+    ∷ []
