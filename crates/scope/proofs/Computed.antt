@@ -16,7 +16,7 @@ use Rattle.scope.specs.Sums.{checkAnswer, pick, rankOf, ranked, rankAnsw
 use Rattle.scope.specs.Worth.{negOf, posOf, NEG, POS, BAL, RBAL, worthOf, worthAnswer}
 use Rattle.scope.specs.Rules.{guardAt, highestAt, actionAt}
 use Rattle.scope.specs.Fire.{takeOf, judged, aimW, aimU, aimV, aim, aimed, firePlan, fired, fireOf}
-use Rattle.scope.specs.Tidy.{holdsAt, dueAt, holds, due, rulesFrom, slotsFrom, nextOf, quiet, linkFrom, linkTo, firedAt, tidyFrom, tidied, tidyOf, rulesFired}
+use Rattle.scope.specs.Tidy.{holdsAt, dueAt, passes, rulesFrom, slotsFrom, nextOf, quiet, linkFrom, linkTo, firedAt, tidyFrom, tidied, tidyOf, rulesFired}
 use Rattle.scope.specs.Calls.{answerOf, tableOf, answers, after}
 use Rattle.scope.proofs.Script.{Row, rows}
 use Rattle.scope.proofs.Marked.{marked, worked}
@@ -38,7 +38,7 @@ pub record Computed : Type 0 where
   pub damage-holds : Holds damage
 
 pub computed : Computed
-unfolding ruleOf sideOf linkOf slotsOf slotsIn slotAt withSlot linkAt written stateOk piecesOk linkOk fitSlot blankSlot headerOk size inOrder times below above ordered treeOf slotOk slotsOk soundTree soundTable gate stepOf walkFrom walkOf startOf foundIn findAnswer recordOk freeFrom freeSlot hangAt postingAt postPlan hung posted postOf amendingAt amendPlan amended amendOf leftmostFrom ifMay dropAt droppingAt dropPlan relinked dropped dropOf checkAnswer pick rankOf ranked rankAnswer totalOf totalAnswer negOf posOf NEG POS BAL RBAL worthOf worthAnswer guardAt highestAt actionAt takeOf judged aimW aimU aimV aim aimed firePlan fired fireOf holdsAt dueAt holds due rulesFrom slotsFrom nextOf quiet linkFrom linkTo firedAt tidyFrom tidied tidyOf rulesFired answerOf tableOf answers after
+unfolding ruleOf sideOf linkOf slotsOf slotsIn slotAt withSlot linkAt written stateOk piecesOk linkOk fitSlot blankSlot headerOk size inOrder times below above ordered treeOf slotOk slotsOk soundTree soundTable gate stepOf walkFrom walkOf startOf foundIn findAnswer recordOk freeFrom freeSlot hangAt postingAt postPlan hung posted postOf amendingAt amendPlan amended amendOf leftmostFrom ifMay dropAt droppingAt dropPlan relinked dropped dropOf checkAnswer pick rankOf ranked rankAnswer totalOf totalAnswer negOf posOf NEG POS BAL RBAL worthOf worthAnswer guardAt highestAt actionAt takeOf judged aimW aimU aimV aim aimed firePlan fired fireOf holdsAt dueAt passes rulesFrom slotsFrom nextOf quiet linkFrom linkTo firedAt tidyFrom tidied tidyOf rulesFired answerOf tableOf answers after
 computed =
     record {
       marked-holds = rows marked refl;

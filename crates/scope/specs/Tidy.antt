@@ -29,28 +29,27 @@ nodesAt t r link v =
     let w = cond (hasThird (r .kind)) (son (slotAt t u) (other (r .side))) u in
     record { link = link; v = v; u = u; w = w; sv = slotAt t v; su = slotAt t u; sw = slotAt t w }
 
--- the nodes are there: v holds a record, u and w hang at their links
-abbrev pub present : Nodes → Bool
-present n = not (eqb (n .sv .state) 0) && not (eqb (n .u) 0) && not (eqb (n .w) 0)
+-- the nodes are there: v holds a record, and u and w are slots of a table of c
+abbrev pub present : ℕ → Nodes → Bool
+present c n =
+    not (eqb (n .sv .state) 0) && (not (eqb (n .u) 0) && leb (n .u) c) && (not (eqb (n .w) 0) && leb (n .w) c)
 
 -- the rule's guard holds at slot v; its link does not matter for that
-unfoldable pub holdsAt : List ℕ → Rule → ℕ → Bool
-holdsAt t r v = present (nodesAt t r rootLink v) && guardAt r (nodesAt t r rootLink v)
+unfoldable pub holdsAt : List ℕ → ℕ → Rule → ℕ → Bool
+holdsAt t c r v = present c (nodesAt t r rootLink v) && guardAt r (nodesAt t r rootLink v)
 
 -- it would be accepted too: no height above the limit
-unfoldable pub dueAt : List ℕ → Rule → ℕ → Bool
-dueAt t r v = holdsAt t r v && leb (highestAt r (nodesAt t r rootLink v)) mostHeight
+unfoldable pub dueAt : List ℕ → ℕ → Rule → ℕ → Bool
+dueAt t c r v = holdsAt t c r v && leb (highestAt r (nodesAt t r rootLink v)) mostHeight
 
-abbrev pub byNumber : RuleIs → (Rule → Bool) → Bool
-byNumber rule-is.Unknown f = false
-byNumber (rule-is.Known r) f = f r
+-- the two tests of a rule, given by its number, at slot v: the guard with the limit, or the guard alone
+abbrev pub byRule : Bool → List ℕ → ℕ → ℕ → RuleIs → Bool
+byRule limited t c v rule-is.Unknown = false
+byRule true t c v (rule-is.Known r) = dueAt t c r v
+byRule false t c v (rule-is.Known r) = holdsAt t c r v
 
--- the same by the rule's number
-unfoldable pub holds : List ℕ → ℕ → ℕ → Bool
-holds t v n = byNumber (ruleOf n) (λ r. holdsAt t r v)
-
-unfoldable pub due : List ℕ → ℕ → ℕ → Bool
-due t v n = byNumber (ruleOf n) (λ r. dueAt t r v)
+unfoldable pub passes : Bool → List ℕ → ℕ → ℕ → ℕ → Bool
+passes limited t c v n = byRule limited t c v (ruleOf n)
 
 -- the lowest slot and then the lowest rule that passes a test, among `left` rules from n on, or what comes after
 module _ (test : ℕ → ℕ → Bool) where
@@ -65,7 +64,7 @@ module _ (test : ℕ → ℕ → Bool) where
 
 -- the firing that is next, in a table of c slots
 unfoldable pub nextOf : List ℕ → ℕ → Next
-nextOf t c = slotsFrom (due t) c 1
+nextOf t c = slotsFrom (passes true t c) c 1
 
 -- no guard holds anywhere
 abbrev pub nothing : Next → Bool
@@ -73,7 +72,7 @@ nothing Nothing = true
 nothing (At v n) = false
 
 unfoldable pub quiet : List ℕ → ℕ → Bool
-quiet t c = nothing (slotsFrom (holds t) c 1)
+quiet t c = nothing (slotsFrom (passes false t c) c 1)
 
 -- the link that holds slot v: that of the lowest holder from k on, of `left` slots, and else the root's
 unfoldable pub linkFrom : ℕ → List ℕ → ℕ → ℕ → Link

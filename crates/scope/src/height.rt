@@ -15,11 +15,11 @@ pub enum HeightIs {
 impl Height {
     pub const MOST: u32 = 65535;
 
-    pub fn of(raw: u32) -> HeightIs
+    pub fn of(raw: u64) -> HeightIs
         ensures { λ r. ⌜ r ≡ heightOf raw ⌝ }
     {
-        if raw <= Height::MOST {
-            HeightIs::Within(Height { number: raw })
+        if raw <= Height::MOST as u64 {
+            HeightIs::Within(Height { number: raw as u32 })
         } else {
             HeightIs::Above
         }

@@ -28,7 +28,7 @@ pub fn put_slot(t: &mut [u32], k: usize, s: Slot)
 
 // A slot's number in a link.
 pub fn put_link(t: &mut [u32], link: Link, k: usize)
-    requires { ⌜ (link .holder ≤ 4095) × (linkAt link < length (now t)) × (k ≤ 4095) ⌝ }
+    requires { ⌜ (link .holder ≤ 4095) × (linkAt link < length (now t)) × (k < 4294967296) ⌝ }
     ensures { λ _. ⌜ now (t .exit) ≡ set (now (t .entry)) (linkAt link) k ⌝ }
 {
     let at = link_word(link);
