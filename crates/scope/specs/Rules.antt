@@ -11,14 +11,11 @@ use Rattle.scope.specs.declared.side.Side.{Side}
 use Rattle.scope.specs.declared.rule.Kind.{Kind}
 use Rattle.scope.specs.declared.rule.Kind.the-variants.{Propagate, Lean, Even, Double}
 use Rattle.scope.specs.declared.rule.Rule.{Rule}
+pub use Rattle.scope.specs.declared.rule.Pair.{Pair}
 use Rattle.scope.specs.declared.outcome.Nodes.{Nodes}
 
 -- a node's registers as a rule sees them: near is on the rule's side, far on the other.
 -- A rule of the left side is so the published one, and a rule of the right its mirror
-pub record Pair : Type 0 where
-  pub near : ℕ
-  pub far : ℕ
-
 abbrev pub seen : Side → Slot → Pair
 seen s x = record { near = register x s; far = register x (other s) }
 

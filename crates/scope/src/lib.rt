@@ -26,6 +26,7 @@ pub use outcome::Taken;
 pub use outcome::Visit;
 pub use outcome::Walk;
 pub use rule::Kind;
+pub use rule::Pair;
 pub use rule::Rule;
 pub use rule::RuleIs;
 pub use side::Link;

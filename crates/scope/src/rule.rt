@@ -22,6 +22,12 @@ pub enum RuleIs {
     Unknown,
 }
 
+// A node's two registers as a rule sees them: near is on the rule's side, far on the other.
+pub struct Pair {
+    pub near: u32,
+    pub far: u32,
+}
+
 fn known(kind: Kind, side: Side) -> RuleIs
     ensures { λ r. ⌜ r ≡ ruleIs kind side ⌝ }
 {

@@ -1,0 +1,2 @@
+-- What the functions of `rules` cite beside `scope`.
+pub mod Sight
