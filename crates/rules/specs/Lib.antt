@@ -1,2 +1,3 @@
 -- What the functions of `rules` cite beside `scope`.
-pub mod Sight
+pub mod Leans
+pub mod Aimed

@@ -1,37 +1,23 @@
-// The guards, over the registers of v, u and w as a rule sees them: near is on its side, far on the other.
+// The guards of the rules, and the heights that they lead to, over registers as a rule sees them.
 use scope::Kind;
-use scope::Nodes;
+use scope::Pair;
 use scope::Side;
 use scope::Slot;
 ghost use mathlib.Core.Path.{_≡_};
 ghost use mathlib.Core.Bool.{Bool, cond};
 ghost use Prim.Native.Nat.{max};
 ghost use Rattle.scope.specs.Tree.{over};
-ghost use Rattle.scope.specs.Rules.{pair, reliable, heavy, guard, highest};
+ghost use Rattle.scope.specs.Rules.{seen, localHeight, reliable, heavy, guard, highest};
 ghost use Rattle.scope.specs.declared.rule.Kind.the-variants.{Even, Lean, Double};
-ghost use Rattle.rules.specs.Sight.{registersOf, guardOf, highestOf, leans};
+ghost use Rattle.rules.specs.Leans.{leans};
 
-pub struct Registers {
-    pub v_near: u32,
-    pub v_far: u32,
-    pub u_near: u32,
-    pub u_far: u32,
-    pub w_near: u32,
-    pub w_far: u32,
-}
-
-// The six registers of a firing's nodes.
-pub fn look(n: Nodes, near: Side) -> Registers
-    ensures { λ r. ⌜ r ≡ registersOf near n ⌝ }
+// A slot's registers, seen from a side.
+pub fn seen(s: Slot, near: Side) -> Pair
+    ensures { λ r. ⌜ r ≡ seen near s ⌝ }
 {
-    let far = near.other();
-    Registers {
-        v_near: words::register(n.sv, near),
-        v_far: words::register(n.sv, far),
-        u_near: words::register(n.su, near),
-        u_far: words::register(n.su, far),
-        w_near: words::register(n.sw, near),
-        w_far: words::register(n.sw, far),
+    Pair {
+        near: words::register(s, near),
+        far: words::register(s, near.other()),
     }
 }
 
@@ -48,60 +34,64 @@ pub fn over(a: u32, b: u32) -> u64
     1 + larger(a as u64, b as u64)
 }
 
-// The register above a node says its local height.
-pub fn reliable(above: u32, near: u32, far: u32) -> bool
-    ensures { λ r. ⌜ r ≡ reliable above (pair near far) ⌝ }
+pub fn local_height(x: Pair) -> u64
+    ensures { λ r. ⌜ r ≡ localHeight x ⌝ }
 {
-    above as u64 == over(near, far)
+    over(x.near, x.far)
+}
+
+// The register above a node says its local height.
+pub fn reliable(above: u32, x: Pair) -> bool
+    ensures { λ r. ⌜ r ≡ reliable above x ⌝ }
+{
+    above as u64 == local_height(x)
 }
 
 // Two or more higher on the near side.
-pub fn heavy(near: u32, far: u32) -> bool
-    ensures { λ r. ⌜ r ≡ heavy (pair near far) ⌝ }
+pub fn heavy(v: Pair) -> bool
+    ensures { λ r. ⌜ r ≡ heavy v ⌝ }
 {
-    far as u64 + 2 <= near as u64
+    v.far as u64 + 2 <= v.near as u64
 }
 
-// u as the rotations want it: higher on one side, or even.
+// What the rotations want of u: even, or higher on one side.
 pub fn lean(even: bool, high: u32, low: u32) -> bool
     ensures { λ r. ⌜ r ≡ leans even high low ⌝ }
 {
     if even { low == high } else { low < high }
 }
 
-pub fn turn_guard(even: bool, x: Registers) -> bool
-    ensures { λ r. ⌜ r ≡ guardOf (cond even Even Lean) x ⌝ }
+pub fn turn_guard(even: bool, v: Pair, u: Pair) -> bool
+    ensures { λ r. ⌜ r ≡ guard (cond even Even Lean) v u u ⌝ }
 {
-    reliable(x.v_near, x.u_near, x.u_far) & heavy(x.v_near, x.v_far) & lean(even, x.u_near, x.u_far)
+    reliable(v.near, u) & heavy(v) & lean(even, u.near, u.far)
 }
 
-pub fn double_guard(x: Registers) -> bool
-    ensures { λ r. ⌜ r ≡ guardOf Double x ⌝ }
+pub fn double_guard(v: Pair, u: Pair, w: Pair) -> bool
+    ensures { λ r. ⌜ r ≡ guard Double v u w ⌝ }
 {
-    reliable(x.v_near, x.u_near, x.u_far)
-        & reliable(x.u_far, x.w_near, x.w_far)
-        & heavy(x.v_near, x.v_far)
-        & lean(false, x.u_far, x.u_near)
+    (reliable(v.near, u) & reliable(u.far, w)) & heavy(v) & lean(false, u.far, u.near)
 }
 
-pub fn guard(kind: Kind, x: Registers) -> bool
-    ensures { λ r. ⌜ r ≡ guardOf kind x ⌝ }
+pub fn guard(kind: Kind, v: Pair, u: Pair, w: Pair) -> bool
+    ensures { λ r. ⌜ r ≡ guard kind v u w ⌝ }
 {
     match kind {
-        Kind::Propagate => !reliable(x.v_near, x.u_near, x.u_far),
-        Kind::Lean => turn_guard(false, x),
-        Kind::Even => turn_guard(true, x),
-        Kind::Double => double_guard(x),
+        Kind::Propagate => !reliable(v.near, u),
+        Kind::Lean => turn_guard(false, v, u),
+        Kind::Even => turn_guard(true, v, u),
+        Kind::Double => double_guard(v, u, w),
     }
 }
 
-// The highest of the heights that the rule's action works out.
-pub fn highest(kind: Kind, x: Registers) -> u64
-    ensures { λ r. ⌜ r ≡ highestOf kind x ⌝ }
+// The highest of the heights that an action works out.
+pub fn highest(kind: Kind, v: Pair, u: Pair, w: Pair) -> u64
+    ensures { λ r. ⌜ r ≡ highest kind v u w ⌝ }
 {
     match kind {
-        Kind::Propagate => over(x.u_near, x.u_far),
-        Kind::Lean | Kind::Even => over(x.u_far, x.v_far),
-        Kind::Double => larger(over(x.u_near, x.w_near), over(x.w_far, x.v_far)),
+        Kind::Propagate => local_height(u),
+        Kind::Lean => over(u.far, v.far),
+        Kind::Even => over(u.far, v.far),
+        Kind::Double => larger(over(u.near, w.near), over(w.far, v.far)),
     }
 }

@@ -11,7 +11,7 @@ use Rattle.scope.specs.declared.side.Side.{Side}
 use Rattle.scope.specs.declared.rule.Kind.{Kind}
 use Rattle.scope.specs.declared.rule.Kind.the-variants.{Propagate, Lean, Even, Double}
 use Rattle.scope.specs.declared.rule.Rule.{Rule}
-pub use Rattle.scope.specs.declared.rule.Pair.{Pair}
+use Rattle.scope.specs.declared.rule.Pair.{Pair}
 use Rattle.scope.specs.declared.outcome.Nodes.{Nodes}
 
 -- a node's registers as a rule sees them: near is on the rule's side, far on the other.

@@ -1,0 +1,6 @@
+-- Laws of the rules over registers and words.
+pub mod Turning
+pub mod Taking
+pub mod Judging
+pub mod Limit
+pub mod Aims
