@@ -89,6 +89,16 @@ pub fn son(s: Slot, side: Side) -> usize
     }
 }
 
+// The same as the word that it is.
+pub fn son_word(s: Slot, side: Side) -> u32
+    ensures { λ r. ⌜ r ≡ son s side ⌝ }
+{
+    match side {
+        Side::Left => s.left,
+        Side::Right => s.right,
+    }
+}
+
 // A slot's register on a side.
 pub fn register(s: Slot, side: Side) -> u32
     ensures { λ r. ⌜ r ≡ register s side ⌝ }

@@ -35,6 +35,15 @@ pub fn put_link(t: &mut [u32], link: Link, k: usize)
     t[at] = k as u32;
 }
 
+// A link's word as it was read elsewhere.
+pub fn put_link_word(t: &mut [u32], link: Link, x: u32)
+    requires { ⌜ (link .holder ≤ 4095) × (linkAt link < length (now t)) ⌝ }
+    ensures { λ _. ⌜ now (t .exit) ≡ set (now (t .entry)) (linkAt link) x ⌝ }
+{
+    let at = link_word(link);
+    t[at] = x;
+}
+
 // A height in a register.
 pub fn put_register(t: &mut [u32], k: usize, side: Side, height: u32)
     requires { ⌜ (1 ≤ k) × (k ≤ 4095) × (registerAt k side < length (now t)) ⌝ }

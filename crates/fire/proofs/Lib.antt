@@ -1,0 +1,4 @@
+-- Laws of written words.
+pub mod Writes
+pub mod Actions
+pub mod Acting

@@ -1,0 +1,3 @@
+-- What the functions of `fire` ask and promise beside `scope`.
+pub mod Wrote
+pub mod Parts
