@@ -2,3 +2,4 @@
 pub mod Writes
 pub mod Actions
 pub mod Acting
+pub mod Planned

@@ -1,75 +1,55 @@
+-- `fire::action::act` meets its contract. Assumes nothing.
+use borrow.Author.Needs.{needs}
 use Rattle.fire.proofs.Acting.{asked, acted}
 use Rattle.scope.specs.declared.rule.Kind.the-variants.{Propagate, Lean, Even, Double}
-use borrow.Author.Needs.{needs}
 use Rattle.fire.proofs.action.act.Statement.{statement}
 use Rattle.fire.proofs.action.act.Tie as tie
-use Rattle.fire.proofs.action.act.Reads as reads
-use Rattle.fire.proofs.action.act.Lts as lts
-use Rattle.fire.proofs.action.propagate.Reads as propagate-reads
-use Rattle.fire.proofs.action.rotate.Reads as rotate-reads
-use Rattle.fire.proofs.action.rotate_twice.Reads as rotate-twice-reads
 
--- src/action.rt:127:38
 enum-told : tie.Need-enum-told
 enum-told c = search needs
 
--- src/action.rt:127:28
 propagate-requires : tie.Need-propagate-requires
 propagate-requires c κs = let p = c .before .before .before .before .pre in asked (p .0) (p .1) Propagate (c .before .enum-told .given .1)
 
--- src/action.rt:128:30
 enum-told-2 : tie.Need-enum-told-2
 enum-told-2 c = search needs
 
--- src/action.rt:128:23
 rotate-requires : tie.Need-rotate-requires
 rotate-requires c κs = let p = c .before .before .before .before .pre in asked (p .0) (p .1) Lean (c .before .enum-told2 .given .1)
 
--- src/action.rt:129:30
 enum-told-3 : tie.Need-enum-told-3
 enum-told-3 c = search needs
 
--- src/action.rt:129:23
 rotate-requires-2 : tie.Need-rotate-requires-2
 rotate-requires-2 c κs = let p = c .before .before .before .before .pre in asked (p .0) (p .1) Even (c .before .enum-told3 .given .1)
 
--- src/action.rt:130:38
 enum-told-4 : tie.Need-enum-told-4
 enum-told-4 c = search needs
 
--- src/action.rt:130:25
 rotate-twice-requires : tie.Need-rotate-twice-requires
 rotate-twice-requires c κs = let p = c .before .before .before .before .pre in asked (p .0) (p .1) Double (c .before .enum-told4 .given .1)
 
--- src/action.rt:120:1
 same-length : tie.Need-same-length
 same-length c = search needs
 
--- src/action.rt:120:1
 returns : tie.Need-returns
 returns c = let p = c .before .before .before .before .before .before .before .pre in acted (p .0) (p .1) Propagate (c .before .before .before .before .enum-told .given .1) (c .before .before .propagate .ensures)
 
--- src/action.rt:120:1
 same-length-2 : tie.Need-same-length-2
 same-length-2 c = search needs
 
--- src/action.rt:120:1
 returns-2 : tie.Need-returns-2
 returns-2 c = let p = c .before .before .before .before .before .before .before .pre in acted (p .0) (p .1) Lean (c .before .before .before .before .enum-told2 .given .1) (c .before .before .rotate .ensures)
 
--- src/action.rt:120:1
 same-length-3 : tie.Need-same-length-3
 same-length-3 c = search needs
 
--- src/action.rt:120:1
 returns-3 : tie.Need-returns-3
 returns-3 c = let p = c .before .before .before .before .before .before .before .pre in acted (p .0) (p .1) Even (c .before .before .before .before .enum-told3 .given .1) (c .before .before .rotate2 .ensures)
 
--- src/action.rt:120:1
 same-length-4 : tie.Need-same-length-4
 same-length-4 c = search needs
 
--- src/action.rt:120:1
 returns-4 : tie.Need-returns-4
 returns-4 c = let p = c .before .before .before .before .before .before .before .pre in acted (p .0) (p .1) Double (c .before .before .before .before .enum-told4 .given .1) (c .before .before .rotate-twice .ensures)
 

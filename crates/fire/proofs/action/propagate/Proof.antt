@@ -1,32 +1,23 @@
-use Rattle.fire.proofs.Actions.{propagate-written}
+-- `fire::action::propagate` meets its contract. Assumes nothing.
 use denote.Ref.{now}
 use borrow.Author.Needs.{needs}
+use Rattle.fire.proofs.Actions.{propagate-written}
 use Rattle.fire.proofs.action.propagate.Statement.{statement}
 use Rattle.fire.proofs.action.propagate.Tie as tie
-use Rattle.fire.proofs.action.propagate.Reads as reads
-use Rattle.fire.proofs.action.propagate.Lts as lts
-use Rattle.fire.proofs.put.put_height.Reads as put-height-reads
-use Rattle.rules.proofs.local_height.Reads as local-height-reads
-use Rattle.rules.proofs.seen.Reads as seen-reads
 
--- src/action.rt:30:29
 seen-requires : tie.Need-seen-requires
 seen-requires c κs = search needs
 
--- src/action.rt:30:9
 local-height-requires : tie.Need-local-height-requires
 local-height-requires c κs = search needs
 
--- src/action.rt:25:5
 put-height-requires : tie.Need-put-height-requires
 put-height-requires c κs = let p = c .before .before .before .before .pre in
     (record { sized = p .0 .sized; first = p .0 .v-first; most = p .0 .v-most }, simp (c .local-height .ensures, c .before .seen .ensures) (p .1))
 
--- src/action.rt:21:1
 same-length : tie.Need-same-length
 same-length c = search needs
 
--- src/action.rt:21:1
 returns : tie.Need-returns
 returns c = let a = c .before .before .before .before .before .before .before .args in
     propagate-written (now (a .t)) (a .c) (a .n) (a .near) (c .before .before .before .before .seen .ensures) (c .before .before .before .local-height .ensures) (c .before .before .put-height .ensures)

@@ -1,57 +1,44 @@
-use Rattle.fire.proofs.Actions.{twice-written}
+-- `fire::action::twice_heights` meets its contract. Assumes nothing.
 use native.Mathlib.Omega.{arith}
 use denote.Ref.{now}
 use borrow.Author.Needs.{needs}
+use Rattle.fire.proofs.Actions.{twice-written}
 use Rattle.fire.proofs.action.twice_heights.Statement.{statement}
 use Rattle.fire.proofs.action.twice_heights.Tie as tie
-use Rattle.fire.proofs.action.twice_heights.Reads as reads
-use Rattle.fire.proofs.action.twice_heights.Lts as lts
-use Rattle.fire.proofs.put.put_height.Reads as put-height-reads
-use Rattle.rules.proofs.over.Reads as over-reads
-use Rattle.rules.proofs.seen.Reads as seen-reads
-use Rattle.scope.proofs.side.Side.other.Reads as other-reads
 
--- src/action.rt:102:9
 seen-requires : tie.Need-seen-requires
 seen-requires c κs = search needs
 
--- src/action.rt:103:9
 seen-requires-2 : tie.Need-seen-requires-2
 seen-requires-2 c κs = search needs
 
--- src/action.rt:104:9
 seen-requires-3 : tie.Need-seen-requires-3
 seen-requires-3 c κs = search needs
 
--- src/action.rt:105:33
 over-requires : tie.Need-over-requires
 over-requires c κs = search needs
 
--- src/action.rt:105:5
 put-height-requires : tie.Need-put-height-requires
-put-height-requires c κs = let p = c .before .before .before .before .before .before .pre in
-    (record { sized = p .0 .sized; first = p .0 .w-first; most = p .0 .w-most },
-    simp (c .over .ensures, c .before .before .seen3 .ensures, c .before .before .before .seen2 .ensures) (omega (arith, p .1)))
+put-height-requires c κs = let p = c .before .before .before .before .before .before .pre in (
+  record { sized = p .0 .sized; first = p .0 .w-first; most = p .0 .w-most },
+  simp (c .over .ensures, c .before .before .seen3 .ensures, c .before .before .before .seen2 .ensures) (omega (arith, p .1)),
+)
 
--- src/action.rt:106:27
 other-requires : tie.Need-other-requires
 other-requires c κs = search needs
 
--- src/action.rt:106:41
 over-requires-2 : tie.Need-over-requires-2
 over-requires-2 c κs = search needs
 
--- src/action.rt:106:5
 put-height-requires-2 : tie.Need-put-height-requires-2
-put-height-requires-2 c κs = let p = c .before .before .before .before .before .before .before .before .before .before .before .before .pre in
-    (record { sized = c .before .before .before .before .before .put-height .ensures .sized; first = p .0 .w-first; most = p .0 .w-most },
-    simp (c .over2 .ensures, c .before .before .before .before .before .before .before .before .seen3 .ensures, c .before .before .before .before .before .before .before .before .before .before .seen .ensures) (omega (arith, p .1)))
+put-height-requires-2 c κs = let p = c .before .before .before .before .before .before .before .before .before .before .before .before .pre in (
+  record { sized = c .before .before .before .before .before .put-height .ensures .sized; first = p .0 .w-first; most = p .0 .w-most },
+  simp (c .over2 .ensures, c .before .before .before .before .before .before .before .before .seen3 .ensures, c .before .before .before .before .before .before .before .before .before .before .seen .ensures) (omega (arith, p .1)),
+)
 
--- src/action.rt:98:1
 same-length : tie.Need-same-length
 same-length c = search needs
 
--- src/action.rt:98:1
 returns : tie.Need-returns
 returns c = let a = c .before .before .before .before .before .before .before .before .before .before .before .before .before .before .before .args in
     twice-written (now (a .t)) (a .c) (a .n) (a .near) (c .before .before .before .before .other .ensures) (c .before .before .before .before .before .before .before .before .before .before .before .before .before .seen .ensures) (c .before .before .before .before .before .before .before .before .before .before .before .before .seen2 .ensures) (c .before .before .before .before .before .before .before .before .before .before .before .seen3 .ensures) (c .before .before .before .before .before .before .before .before .before .over .ensures) (c .before .before .before .over2 .ensures) (c .before .before .before .before .before .before .before .before .put-height .ensures) (c .before .before .put-height2 .ensures)

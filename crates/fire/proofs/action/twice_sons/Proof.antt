@@ -1,39 +1,28 @@
-use Rattle.fire.proofs.Actions.{sons-written}
+-- `fire::action::twice_sons` meets its contract. Assumes nothing.
 use denote.Ref.{now}
 use borrow.Author.Needs.{needs}
+use Rattle.fire.proofs.Actions.{sons-written}
 use Rattle.fire.proofs.action.twice_sons.Statement.{statement}
 use Rattle.fire.proofs.action.twice_sons.Tie as tie
-use Rattle.fire.proofs.action.twice_sons.Reads as reads
-use Rattle.fire.proofs.action.twice_sons.Lts as lts
-use Rattle.fire.proofs.put.put_branch.Reads as put-branch-reads
-use Rattle.scope.proofs.side.Side.other.Reads as other-reads
-use Rattle.words.proofs.son_word.Reads as son-word-reads
 
--- src/action.rt:83:9
 other-requires : tie.Need-other-requires
 other-requires c κs = search needs
 
--- src/action.rt:84:32
 son-word-requires : tie.Need-son-word-requires
 son-word-requires c κs = search needs
 
--- src/action.rt:84:5
 put-branch-requires : tie.Need-put-branch-requires
 put-branch-requires c κs = search needs
 
--- src/action.rt:85:33
 son-word-requires-2 : tie.Need-son-word-requires-2
 son-word-requires-2 c κs = search needs
 
--- src/action.rt:85:5
 put-branch-requires-2 : tie.Need-put-branch-requires-2
 put-branch-requires-2 c κs = search needs
 
--- src/action.rt:79:1
 same-length : tie.Need-same-length
 same-length c = search needs
 
--- src/action.rt:79:1
 returns : tie.Need-returns
 returns c = let a = c .before .before .before .before .before .before .before .before .before .before .before .before .args in
     sons-written (now (a .t)) (a .c) (a .n) (a .near) (c .before .before .before .before .before .before .before .before .before .before .other .ensures) (c .before .before .before .before .before .before .before .before .son-word .ensures) (c .before .before .before .son-word2 .ensures) (c .before .before .before .before .before .before .before .put-branch .ensures) (c .before .before .put-branch2 .ensures)

@@ -1,83 +1,70 @@
+-- `fire::call::fire` meets its contract. Assumes nothing.
+use mathlib.Core.Path.{sym, _∙_, ap}
+use native.Mathlib.Omega.{arith}
+use denote.Ref.{now}
 use borrow.Author.Needs.{needs}
+use Rattle.fire.proofs.Planned.{fire-shut, fire-refused, fire-fired}
+use Rattle.words.proofs.Laws.{slots-room}
+use Rattle.scope.specs.Answers.{Done}
 use Rattle.fire.proofs.call.fire.Statement.{statement}
 use Rattle.fire.proofs.call.fire.Tie as tie
-use Rattle.fire.proofs.call.fire.Reads as reads
-use Rattle.fire.proofs.call.fire.Lts as lts
-use Rattle.fire.proofs.action.act.Reads as act-reads
-use Rattle.fire.proofs.call.plan_in.Reads as plan-in-reads
-use Rattle.words.proofs.accept.Reads as accept-reads
-use Rattle.words.proofs.capacity.Reads as capacity-reads
-use Rattle.words.proofs.refuse.Reads as refuse-reads
-use Rattle.words.proofs.change.Reads as change-reads
-use Rattle.words.proofs.long.Reads as long-reads
 
--- src/call.rt:48:11
 capacity-requires : tie.Need-capacity-requires
 capacity-requires c κs = search needs
 
--- src/call.rt:49:43
 enum-told : tie.Need-enum-told
 enum-told c = search needs
 
--- src/call.rt:49:29
 refuse-requires : tie.Need-refuse-requires
 refuse-requires c κs = search needs
 
--- src/call.rt:50:25
 enum-known-s : tie.Need-enum-known-s
 enum-known-s c = search needs
 
--- src/call.rt:52:19
 plan-in-requires : tie.Need-plan-in-requires
-plan-in-requires c κs = ?
+plan-in-requires c κs = slots-room (now (c .before .before .before .before .before .before .args .t)) _ (sym (c .before .before .before .before .capacity .ensures) ∙ c .before .before .s .given .1)
 
--- src/call.rt:53:32
 enum-known-why : tie.Need-enum-known-why
 enum-known-why c = search needs
 
--- src/call.rt:53:40
 refuse-requires-2 : tie.Need-refuse-requires-2
 refuse-requires-2 c κs = search needs
 
--- src/call.rt:54:30
 enum-known-r : tie.Need-enum-known-r
 enum-known-r c = search needs
 
--- src/call.rt:55:25
 change-requires : tie.Need-change-requires
-change-requires c κs = ?
+change-requires c κs = let s = slots-room (now (c .before .before .before .before .before .before .before .before .before .before .before .args .t)) _ (sym (c .before .before .before .before .before .before .before .before .before .capacity .ensures) ∙ c .before .before .before .before .before .before .before .s .given .1) in omega (arith, s .room, s .some)
 
--- src/call.rt:56:21
 act-requires : tie.Need-act-requires
-act-requires c κs = ?
+act-requires c κs = (slots-room (now (c .before .before .before .before .before .before .before .before .before .before .before .before .before .args .t)) _ (sym (c .before .before .before .before .before .before .before .before .before .before .before .capacity .ensures) ∙ c .before .before .before .before .before .before .before .before .before .s .given .1), rw (c .before .before .before .before .r .given .1) at (c .before .before .before .before .before .before .plan-in .ensures .may))
 
--- src/call.rt:57:35
 long-requires : tie.Need-long-requires
 long-requires c κs = search needs
 
--- src/call.rt:57:21
 accept-requires : tie.Need-accept-requires
 accept-requires c κs = search needs
 
--- src/call.rt:45:1
 returns : tie.Need-returns
-returns c = ?
+returns c = let a = c .before .before .before .before .before .args in
+    let e = sym (fire-shut (now (a .t)) (a .rule) (a .holder) (a .side) (sym (c .before .before .before .capacity .ensures) ∙ c .before .enum-told .given .1)) in
+    (c .refuse .ensures ∙ ap (λ (d : Done). d .answer) e, ap (λ (d : Done). d .words) e)
 
--- src/call.rt:45:1
 same-length : tie.Need-same-length
 same-length c = search needs
 
--- src/call.rt:45:1
 returns-2 : tie.Need-returns-2
-returns-2 c = ?
+returns-2 c = let a = c .before .before .before .before .before .before .before .before .before .before .before .args in
+    let e = sym (fire-refused (now (a .t)) (a .rule) (a .holder) (a .side) (sym (c .before .before .before .before .before .before .before .before .before .capacity .ensures) ∙ c .before .before .before .before .before .before .before .s .given .1) (sym (c .before .before .why .given .1) ∙ c .before .before .before .before .plan-in .ensures .is)) in
+    (c .refuse2 .ensures ∙ ap (λ (d : Done). d .answer) e, ap (λ (d : Done). d .words) e)
 
--- src/call.rt:45:1
 same-length-2 : tie.Need-same-length-2
 same-length-2 c = search needs
 
--- src/call.rt:45:1
 returns-3 : tie.Need-returns-3
-returns-3 c = ?
+returns-3 c = let a = c .before .before .before .before .before .before .before .before .before .before .before .before .before .before .before .before .before .before .args in
+    let e = sym (fire-fired (now (a .t)) (a .rule) (a .holder) (a .side) (sym (c .before .before .before .before .before .before .before .before .before .before .before .before .before .before .before .before .capacity .ensures) ∙ c .before .before .before .before .before .before .before .before .before .before .before .before .before .before .s .given .1) (sym (c .before .before .before .before .before .before .before .before .before .r .given .1) ∙ c .before .before .before .before .before .before .before .before .before .before .before .plan-in .ensures .is)) in
+    (c .accept .ensures ∙ simp (c .before .long .ensures, c .before .before .before .before .before .before .change .ensures) (ap (λ (d : Done). d .answer) e), c .before .before .before .before .act .ensures .is ∙ ap (λ (d : Done). d .words) e)
 
 pub fire-spec : {M : Type 1} → statement M
 fire-spec =

@@ -1,23 +1,18 @@
+-- `fire::put::put_son` meets its contract. Assumes nothing.
+use native.Mathlib.Omega.{arith}
+use denote.Ref.{now}
+use borrow.Author.Needs.{needs}
 use Rattle.fire.proofs.Writes.{son-at, kept-set}
 use Rattle.words.proofs.Laws.{link-lt}
-use denote.Ref.{now}
-use native.Mathlib.Omega.{arith}
-use borrow.Author.Needs.{needs}
 use Rattle.fire.proofs.put.put_son.Statement.{statement}
 use Rattle.fire.proofs.put.put_son.Tie as tie
-use Rattle.fire.proofs.put.put_son.Reads as reads
-use Rattle.fire.proofs.put.put_son.Lts as lts
-use Rattle.words.proofs.put_link.Reads as put-link-reads
 
--- src/put.rt:23:5
 put-link-requires : tie.Need-put-link-requires
 put-link-requires c κs = let p = c .before .before .pre in (omega arith, link-lt _ _ _ (p .0 .sized) (p .0 .most), omega arith)
 
--- src/put.rt:19:1
 same-length : tie.Need-same-length
 same-length c = search needs
 
--- src/put.rt:19:1
 returns : tie.Need-returns
 returns c = let a = c .before .before .before .before .before .args in
     let p = c .before .before .before .before .before .pre .0 in

@@ -1,21 +1,16 @@
-use Rattle.words.proofs.Laws.{link-lt}
+-- `fire::put::put_top` meets its contract. Assumes nothing.
 use native.Mathlib.Omega.{arith}
 use borrow.Author.Needs.{needs}
+use Rattle.words.proofs.Laws.{link-lt}
 use Rattle.fire.proofs.put.put_top.Statement.{statement}
 use Rattle.fire.proofs.put.put_top.Tie as tie
-use Rattle.fire.proofs.put.put_top.Reads as reads
-use Rattle.fire.proofs.put.put_top.Lts as lts
-use Rattle.words.proofs.put_link.Reads as put-link-reads
 
--- src/put.rt:15:5
 put-link-requires : tie.Need-put-link-requires
 put-link-requires c κs = let p = c .before .before .pre in (omega arith, link-lt _ _ _ (p .0) (p .1), omega arith)
 
--- src/put.rt:11:1
 same-length : tie.Need-same-length
 same-length c = search needs
 
--- src/put.rt:11:1
 returns : tie.Need-returns
 returns c = search needs
 
