@@ -1,0 +1,6 @@
+-- Laws of tidying.
+pub mod Sights
+pub mod Scanning
+pub mod Linking
+pub mod Dues
+pub mod Running
