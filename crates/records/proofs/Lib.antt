@@ -1,0 +1,3 @@
+-- Laws that the functions of `records` lean on.
+pub mod Free
+pub mod Carried
