@@ -1,3 +1,4 @@
 -- Laws that the functions of `records` lean on.
 pub mod Free
+pub mod Written
 pub mod Carried

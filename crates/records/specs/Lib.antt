@@ -1,2 +1,3 @@
--- What the plans of post and amend are good for.
+-- How post and amend end, and what their plans are good for.
+pub mod Ends
 pub mod Planned

@@ -12,6 +12,7 @@ ghost use Rattle.scope.specs.Amend.{amendingAt, amendPlan, amended, amendAnswer
 ghost use Rattle.scope.specs.declared.outcome.Amending.the-variants.{Change};
 ghost use Rattle.words.specs.Ready.{Ready};
 ghost use Rattle.walk.specs.Walked.{Inside};
+ghost use Rattle.records.specs.Ends.{Does};
 ghost use Rattle.records.specs.Planned.{Changeable, AmendPlanned};
 
 // Tests 5 and 7.
@@ -45,7 +46,7 @@ pub fn plan_amend(t: &[u32], key: u32, pieces: u32, state: u32) -> Amending
 // The record of slot k with other pieces and another state.
 pub fn change_record(t: &mut [u32], k: usize, pieces: u32, state: u32) -> Answer
     requires { ⌜ Changeable (now t) k ⌝ }
-    ensures { λ r. ⌜ (r ≡ amended (now (t .entry)) pieces state (Change k) .answer) × (now (t .exit) ≡ amended (now (t .entry)) pieces state (Change k) .words) ⌝ }
+    ensures { λ r. ⌜ Does (amended (now (t .entry)) pieces state (Change k)) r (now (t .exit)) ⌝ }
 {
     let change = words::change(t);
     let s = words::slot_at(t, k);

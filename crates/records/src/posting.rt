@@ -9,12 +9,12 @@ use scope::Slot;
 use scope::State;
 use scope::Walk;
 ghost use mathlib.Core.Path.{_≡_};
-ghost use Prim.Native.Nat.{_+_, _≤_};
-ghost use Rattle.scope.specs.Table.{word, changeWord};
-ghost use Rattle.scope.specs.Answers.{accepted};
-ghost use Rattle.scope.specs.Post.{recordOk, hangAt, postingAt, postPlan, leafSlot, hung, postAnswer, postTable};
+ghost use Prim.Native.Nat.{_≤_};
+ghost use Rattle.scope.specs.Post.{recordOk, hangAt, postingAt, postPlan, leafSlot, posted, postAnswer, postTable};
+ghost use Rattle.scope.specs.declared.outcome.Posting.the-variants.{Hang};
 ghost use Rattle.words.specs.Ready.{Ready};
 ghost use Rattle.walk.specs.Walked.{Inside};
+ghost use Rattle.records.specs.Ends.{Does};
 ghost use Rattle.records.specs.Planned.{Free, Hangable, Planned};
 
 // Key, pieces and state are in range.
@@ -99,7 +99,7 @@ pub fn leaf(key: u32, pieces: u32, state: u32) -> Slot
 // The leaf in slot k, and k in its link.
 pub fn hang(t: &mut [u32], k: usize, link: Link, new: Slot) -> Answer
     requires { ⌜ Hangable (now t) k link ⌝ }
-    ensures { λ r. ⌜ (r ≡ accepted (word (now (t .entry)) changeWord + 1) k 0 0) × (now (t .exit) ≡ hung (now (t .entry)) k link new) ⌝ }
+    ensures { λ r. ⌜ Does (posted (now (t .entry)) new (Hang k link)) r (now (t .exit)) ⌝ }
 {
     let count = words::records(t);
     let change = words::change(t);

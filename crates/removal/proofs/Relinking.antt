@@ -1,6 +1,6 @@
 -- What the test before a register is cleared tells. Assumes nothing.
 use Prim.Native.Nat.{ℕ, _≤_}
-use mathlib.Core.Path.{_≡_}
+use mathlib.Core.Path.{_≡_, refl}
 use mathlib.Core.Bool.{Bool, true, false, not, _||_}
 use native.Mathlib.Omega.{arith}
 use borrow.Author.Tests.{eqb-false}
@@ -8,7 +8,7 @@ use lib.Dec.{eqb}
 use Rattle.scope.proofs.Bools.{neither}
 
 or-r : (a b : Bool) → (a || b) ≡ false → b ≡ false
-or-r true b e = neither {b = true} mathlib.Core.Path.refl e
+or-r true b e = neither {b = true} refl e
 or-r false b e = e
 
 -- a slot holds the link

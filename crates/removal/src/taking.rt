@@ -5,14 +5,13 @@ use scope::Dropping;
 use scope::Link;
 use scope::Slot;
 ghost use mathlib.Core.Path.{_≡_};
-ghost use Prim.Native.Nat.{_+_, _-_, _≤_, _<_};
-ghost use lib.ListN.{set};
+ghost use Prim.Native.Nat.{_-_, _≤_, _<_};
 ghost use Rattle.scope.specs.Numbers.{lastChange};
-ghost use Rattle.scope.specs.Table.{countWord, changeWord, slotAt, withSlot, InTable};
+ghost use Rattle.scope.specs.Table.{slotAt, withSlot, InTable};
 ghost use Rattle.scope.specs.Fit.{zeroSlot};
-ghost use Rattle.scope.specs.Answers.{accepted};
 ghost use Rattle.scope.specs.Drop.{relinked, withRecord, dropped, dropAnswer, dropTable};
 ghost use Rattle.scope.specs.declared.outcome.Dropping.the-variants.{Lift, Replace};
+ghost use Rattle.records.specs.Ends.{Does, settled};
 ghost use Rattle.removal.specs.Planned.{Linkable, Liftable, Replaceable};
 
 // The link takes the son; where that is none, a slot that holds the link has 0 in the register beside it.
@@ -51,7 +50,7 @@ pub fn take_record(t: &mut [u32], slot: usize, from: Slot)
 // The slot is freed: eight zeros, one record fewer than before, one change more.
 pub fn vacate(t: &mut [u32], slot: usize, count: usize, change: u32) -> Answer
     requires { ⌜ InTable (now t) slot × (1 ≤ count) × (count ≤ 4095) × (change < lastChange) ⌝ }
-    ensures { λ r. ⌜ (r ≡ accepted (change + 1) slot 0 0) × (now (t .exit) ≡ set (set (withSlot (now (t .entry)) slot zeroSlot) countWord (count - 1)) changeWord (change + 1)) ⌝ }
+    ensures { λ r. ⌜ Does (settled (withSlot (now (t .entry)) slot zeroSlot) (count - 1) change slot) r (now (t .exit)) ⌝ }
 {
     let zeros = Slot {
         state: 0,
@@ -70,7 +69,7 @@ pub fn vacate(t: &mut [u32], slot: usize, count: usize, change: u32) -> Answer
 // A record with at most one son: the son takes its link.
 pub fn lift(t: &mut [u32], slot: usize, link: Link, son: usize) -> Answer
     requires { ⌜ Liftable (now t) slot link son ⌝ }
-    ensures { λ r. ⌜ (r ≡ dropped (now (t .entry)) (Lift slot link son) .answer) × (now (t .exit) ≡ dropped (now (t .entry)) (Lift slot link son) .words) ⌝ }
+    ensures { λ r. ⌜ Does (dropped (now (t .entry)) (Lift slot link son)) r (now (t .exit)) ⌝ }
 {
     let count = words::records(t);
     let change = words::change(t);
@@ -81,7 +80,7 @@ pub fn lift(t: &mut [u32], slot: usize, link: Link, son: usize) -> Answer
 // A record with two sons: the least of its right side takes its place.
 pub fn replace(t: &mut [u32], slot: usize, least: usize, link: Link) -> Answer
     requires { ⌜ Replaceable (now t) slot least link ⌝ }
-    ensures { λ r. ⌜ (r ≡ dropped (now (t .entry)) (Replace slot least link) .answer) × (now (t .exit) ≡ dropped (now (t .entry)) (Replace slot least link) .words) ⌝ }
+    ensures { λ r. ⌜ Does (dropped (now (t .entry)) (Replace slot least link)) r (now (t .exit)) ⌝ }
 {
     let count = words::records(t);
     let change = words::change(t);

@@ -1,6 +1,5 @@
 -- `records::amend` meets its contract. Assumes nothing.
 use mathlib.Core.Path.{refl}
-use denote.Ref.{now}
 use borrow.Author.Needs.{needs}
 use Rattle.scope.specs.Amend.{amendOf, amended}
 use Rattle.records.proofs.Carried.{carried}
@@ -20,21 +19,25 @@ enum-known-slot : tie.Need-enum-known-slot
 enum-known-slot c = search needs
 
 change-record-requires : tie.Need-change-record-requires
-change-record-requires c κs = rw (c .before .before .slot .given .1) at (c .before .before .before .before .plan-amend .ensures .can)
+change-record-requires c κs =
+    let b = c .before .before in rw (b .slot .given .1) at (b .before .before .plan-amend .ensures .can)
 
 same-length : tie.Need-same-length
 same-length c = search needs
 
 returns : tie.Need-returns
 unfolding amendOf amended
-returns c = carried (amended _ _ _) (c .before .before .before .before .plan-amend .ensures .is) (c .before .before .why .given .1) (c .refuse .ensures, refl)
+returns c =
+    let b = c .before .before in carried (amended _ _ _) (b .before .before .plan-amend .ensures .is) (b .why .given .1) (c .refuse .ensures, refl)
 
 same-length-2 : tie.Need-same-length-2
 same-length-2 c = search needs
 
 returns-2 : tie.Need-returns-2
 unfolding amendOf
-returns-2 c = carried (amended _ _ _) (c .before .before .before .before .before .before .before .plan-amend .ensures .is) (c .before .before .before .before .before .slot .given .1) (c .before .before .change-record .ensures)
+returns-2 c =
+    let b = c .before .before .before .before .before in
+    carried (amended _ _ _) (b .before .before .plan-amend .ensures .is) (b .slot .given .1) (c .before .before .change-record .ensures)
 
 pub amend-spec : {M : Type 1} → statement M
 amend-spec =

@@ -29,11 +29,22 @@ returns-2 c = record { is = simp (c .enum-told2 .given .1); can = tt }
 
 returns-3 : tie.Need-returns-3
 unfolding amendingAt
-returns-3 c = let i = rw (c .before .before .before .w .given .1) at (c .before .before .before .before .before .before .pre .1) in record { is = simp (c .before .before .before .w .given .1, sym (c .before .change .ensures), lt-ltb _ _ (c .if1 .taken)); can = record { placed = record { slots = c .before .before .before .before .before .before .args .c; ready = c .before .before .before .before .before .before .pre .0; first = i .0; last = i .1 }; change = omega arith } }
+returns-3 c =
+    let b = c .before .before .before in
+    let s = b .before .before .before in
+    let i = rw (b .w .given .1) at (s .pre .1) in
+    record {
+      is = simp (b .w .given .1, sym (c .before .change .ensures), lt-ltb _ _ (c .if1 .taken));
+      can = record {
+        placed = record { slots = s .args .c; ready = s .pre .0; first = i .0; last = i .1 };
+        change = omega arith;
+      };
+    }
 
 returns-4 : tie.Need-returns-4
 unfolding amendingAt
-returns-4 c = record { is = simp (c .before .before .before .w .given .1, sym (c .before .change .ensures), le-ltb _ _ (c .if1 .left)); can = tt }
+returns-4 c =
+    record { is = simp (c .before .before .before .w .given .1, sym (c .before .change .ensures), le-ltb _ _ (c .if1 .left)); can = tt }
 
 pub amending-at-spec : {M : Type 1} → statement M
 amending-at-spec =

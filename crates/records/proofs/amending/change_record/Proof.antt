@@ -22,7 +22,10 @@ same-length c = search needs
 
 returns : tie.Need-returns
 unfolding amended
-returns c = (simp (sym (c .before .before .before .before .before .before .before .before .before .before .change .ensures)) (c .before .before .next-change .ensures .0), simp (sym (c .before .before .before .before .before .before .before .before .before .before .change .ensures), sym (c .before .before .before .before .before .before .before .before .slot-at .ensures), sym (c .before .before .before .before .before .before .put-slot .ensures)) (c .before .before .next-change .ensures .1))
+returns c =
+    let b = c .before .before .before .before .before .before in
+    simp (sym (b .before .before .before .before .change .ensures), sym (b .before .before .slot-at .ensures), sym (b .put-slot .ensures))
+    (c .before .before .next-change .ensures)
 
 pub change-record-spec : {M : Type 1} → statement M
 change-record-spec =

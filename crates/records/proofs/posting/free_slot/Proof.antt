@@ -17,10 +17,12 @@ loop-holds : tie.Need-loop-holds Inv-loop μ-loop
 loop-holds c = seek-start _ _
 
 state-at-requires : tie.Need-state-at-requires Inv-loop μ-loop
-state-at-requires c κs = in-table _ (c .before .before .before .pre .sized) (c .before .loop .inv .first) (c .loop-test .taken)
+state-at-requires c κs =
+    in-table _ (c .before .before .before .pre .sized) (c .before .loop .inv .first) (c .loop-test .taken)
 
 returns : tie.Need-returns Inv-loop μ-loop
-returns c = seek-here (c .before .before .before .loop .inv) (c .before .before .loop-test .taken) (sym (c .before .state-at .ensures) ∙ c .if1 .taken)
+returns c =
+    let l = c .before .before in seek-here (l .before .loop .inv) (l .loop-test .taken) (sym (c .before .state-at .ensures) ∙ c .if1 .taken)
 
 add-k : tie.Need-add-k Inv-loop μ-loop
 add-k c = omega arith
@@ -29,7 +31,8 @@ loop-less : tie.Need-loop-less Inv-loop μ-loop
 loop-less c = omega arith
 
 loop-again : tie.Need-loop-again Inv-loop μ-loop
-loop-again c = seek-on (c .before .before .before .loop .inv) (c .before .before .loop-test .taken) (λ z. c .if1 .left (c .before .state-at .ensures ∙ z))
+loop-again c =
+    let l = c .before .before in seek-on (l .before .loop .inv) (l .loop-test .taken) (λ z. c .if1 .left (c .before .state-at .ensures ∙ z))
 
 returns-2 : tie.Need-returns-2 Inv-loop μ-loop
 returns-2 c = seek-end (c .before .loop .inv) (c .loop-test .left)

@@ -26,15 +26,39 @@ change-requires c κs = search needs
 
 returns-2 : tie.Need-returns-2
 unfolding hangAt
-returns-2 c = let p = c .before .before .before .before .before .before .before .before .pre in record { is = simp (ne-eqb _ _ (c .before .before .before .before .before .before .if1 .left), sym (c .before .before .before .before .before .slot-at .ensures), sym (c .before .before .before .before .blank .ensures), sym (c .before .before .before .records .ensures), c .before .before .if2 .taken, sym (c .before .change .ensures), lt-ltb _ _ (c .if3 .taken)); can = record { placed = record { slots = c .before .before .before .before .before .before .before .before .args .c; ready = p .0; first = omega arith; last = p .2 }; held = p .1; count = omega (arith, ltb-true (c .before .before .before .records .result) (c .before .before .before .before .before .before .before .before .args .c) (and-r (c .before .before .before .before .blank .result) _ (c .before .before .if2 .taken))); change = omega arith } }
+returns-2 c =
+    let i = c .before .before in
+    let r = i .before .before .before in
+    let s = r .before .before .before in
+    let p = s .pre in
+    record {
+      is = simp (ne-eqb _ _ (r .before .if1 .left), sym (r .slot-at .ensures), sym (i .before .before .blank .ensures), sym (i .before .records .ensures), i .if2 .taken, sym (c .before .change .ensures), lt-ltb _ _ (c .if3 .taken));
+      can = record {
+        placed = record { slots = s .args .c; ready = p .0; first = omega arith; last = p .2 };
+        held = p .1;
+        count = omega (arith, ltb-true (i .before .records .result) (s .args .c) (and-r (i .before .before .blank .result) _ (i .if2 .taken)));
+        change = omega arith;
+      };
+    }
 
 returns-3 : tie.Need-returns-3
 unfolding hangAt
-returns-3 c = record { is = simp (ne-eqb _ _ (c .before .before .before .before .before .before .if1 .left), sym (c .before .before .before .before .before .slot-at .ensures), sym (c .before .before .before .before .blank .ensures), sym (c .before .before .before .records .ensures), c .before .before .if2 .taken, sym (c .before .change .ensures), le-ltb _ _ (c .if3 .left)); can = tt }
+returns-3 c =
+    let i = c .before .before in
+    let r = i .before .before .before in
+    record {
+      is = simp (ne-eqb _ _ (r .before .if1 .left), sym (r .slot-at .ensures), sym (i .before .before .blank .ensures), sym (i .before .records .ensures), i .if2 .taken, sym (c .before .change .ensures), le-ltb _ _ (c .if3 .left));
+      can = tt;
+    }
 
 returns-4 : tie.Need-returns-4
 unfolding hangAt
-returns-4 c = record { is = simp (ne-eqb _ _ (c .before .before .before .before .if1 .left), sym (c .before .before .before .slot-at .ensures), sym (c .before .before .blank .ensures), sym (c .before .records .ensures), c .if2 .left); can = tt }
+returns-4 c =
+    let r = c .before .before .before in
+    record {
+      is = simp (ne-eqb _ _ (r .before .if1 .left), sym (r .slot-at .ensures), sym (c .before .before .blank .ensures), sym (c .before .records .ensures), c .if2 .left);
+      can = tt;
+    }
 
 pub hang-at-spec : {M : Type 1} → statement M
 hang-at-spec =

@@ -1,8 +1,7 @@
 -- `records::post` meets its contract. Assumes nothing.
 use mathlib.Core.Path.{refl}
-use denote.Ref.{now}
 use borrow.Author.Needs.{needs}
-use Rattle.scope.specs.Post.{leafSlot, postOf, posted}
+use Rattle.scope.specs.Post.{postOf, posted}
 use Rattle.records.proofs.Carried.{carried}
 use Rattle.records.proofs.posting.post.Statement.{statement}
 use Rattle.records.proofs.posting.post.Tie as tie
@@ -23,22 +22,26 @@ leaf-requires : tie.Need-leaf-requires
 leaf-requires c κs = search needs
 
 hang-requires : tie.Need-hang-requires
-hang-requires c κs = rw (c .before .before .before .slot .given .1) at (c .before .before .before .before .before .plan-post .ensures .can)
+hang-requires c κs =
+    let b = c .before .before .before in rw (b .slot .given .1) at (b .before .before .plan-post .ensures .can)
 
 same-length : tie.Need-same-length
 same-length c = search needs
 
 returns : tie.Need-returns
 unfolding postOf posted
-returns c = carried (posted _ _) (c .before .before .before .before .plan-post .ensures .is) (c .before .before .why .given .1) (c .refuse .ensures, refl)
+returns c =
+    let b = c .before .before in carried (posted _ _) (b .before .before .plan-post .ensures .is) (b .why .given .1) (c .refuse .ensures, refl)
 
 same-length-2 : tie.Need-same-length-2
 same-length-2 c = search needs
 
 returns-2 : tie.Need-returns-2
-unfolding postOf posted
-returns-2 c = carried (posted _ _) (c .before .before .before .before .before .before .before .before .plan-post .ensures .is) (c .before .before .before .before .before .before .slot .given .1)
-    (c .before .before .hang .ensures .0, rw (c .before .before .before .leaf .ensures) at (c .before .before .hang .ensures .1))
+unfolding postOf
+returns-2 c =
+    let b = c .before .before .before .before .before .before in
+    carried (posted _ _) (b .before .before .plan-post .ensures .is) (b .slot .given .1)
+    (rw (c .before .before .before .leaf .ensures) at (c .before .before .hang .ensures))
 
 pub post-spec : {M : Type 1} → statement M
 post-spec =

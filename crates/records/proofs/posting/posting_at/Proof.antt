@@ -18,7 +18,10 @@ free-slot-requires : tie.Need-free-slot-requires
 free-slot-requires c κs = search needs
 
 hang-at-requires : tie.Need-hang-at-requires
-hang-at-requires c κs = let i = rw (c .before .before .w .given .1) at (c .before .before .before .before .before .pre .1) in (c .before .before .before .before .before .pre .0, i .0, c .free-slot .ensures .most)
+hang-at-requires c κs =
+    let s = c .before .before .before .before .before in
+    let i = rw (c .before .before .w .given .1) at (s .pre .1) in
+    (s .pre .0, i .0, c .free-slot .ensures .most)
 
 returns : tie.Need-returns
 unfolding postingAt
@@ -30,7 +33,7 @@ returns-2 c = record { is = simp (c .enum-told2 .given .1); can = tt }
 
 returns-3 : tie.Need-returns-3
 unfolding postingAt
-returns-3 c = record { is = simp (c .before .before .before .w .given .1, sym (c .before .free-slot .ensures .is)) (c .hang-at .ensures .is); can = c .hang-at .ensures .can }
+returns-3 c = simp (c .before .before .before .w .given .1, sym (c .before .free-slot .ensures .is)) (c .hang-at .ensures)
 
 pub posting-at-spec : {M : Type 1} → statement M
 posting-at-spec =

@@ -22,7 +22,8 @@ same-length : tie.Need-same-length
 same-length c = search needs
 
 returns : tie.Need-returns
-returns c = (simp (c .accept .ensures, c .before .before .long .ensures, c .before .size .ensures), c .before .before .before .before .before .put-change .ensures)
+returns c =
+    (simp (c .accept .ensures, c .before .before .long .ensures, c .before .size .ensures), c .before .before .before .before .before .put-change .ensures)
 
 pub next-change-spec : {M : Type 1} → statement M
 next-change-spec =

@@ -19,28 +19,58 @@ wide-requires-2 : tie.Need-wide-requires-2
 wide-requires-2 c κs = search needs
 
 if-may-requires : tie.Need-if-may-requires
-if-may-requires c κs = let p = c .before .before .before .before .before .pre in (omega arith, aim-lift (p .0) (p .1) (p .2) (p .3) (read-son _ _ _ Right (c .before .before .before .before .before .pre .5) (c .before .before .before .slot-at .ensures) (c .before .wide2 .ensures)))
+if-may-requires c κs =
+    let r = c .before .before .before in
+    let p = r .before .before .pre in
+    (omega arith, aim-lift (p .0) (p .1) (p .2) (p .3) (read-son _ _ _ Right (p .5) (r .slot-at .ensures) (c .before .wide2 .ensures)))
 
 returns : tie.Need-returns
 unfolding dropAt
-returns c = record { is = simp (sym (c .before .before .before .before .slot-at .ensures), sym (c .before .before .before .wide .ensures), sym (c .before .before .wide2 .ensures), eq-eqb _ _ (c .before .if1 .taken)) (c .if-may .ensures .is); can = c .if-may .ensures .can }
+returns c =
+    let r = c .before .before .before .before in
+    simp (sym (r .slot-at .ensures), sym (c .before .before .before .wide .ensures), sym (c .before .before .wide2 .ensures), eq-eqb _ _ (c .before .if1 .taken))
+    (c .if-may .ensures)
 
 if-may-requires-2 : tie.Need-if-may-requires-2
-if-may-requires-2 c κs = let p = c .before .before .before .before .before .before .pre in (omega arith, aim-lift (p .0) (p .1) (p .2) (p .3) (read-son _ _ _ Left (c .before .before .before .before .before .before .pre .5) (c .before .before .before .before .slot-at .ensures) (c .before .before .before .wide .ensures)))
+if-may-requires-2 c κs =
+    let r = c .before .before .before .before in
+    let p = r .before .before .pre in
+    (omega arith, aim-lift (p .0) (p .1) (p .2) (p .3) (read-son _ _ _ Left (p .5) (r .slot-at .ensures) (c .before .before .before .wide .ensures)))
 
 returns-2 : tie.Need-returns-2
 unfolding dropAt
-returns-2 c = record { is = simp (sym (c .before .before .before .before .before .slot-at .ensures), sym (c .before .before .before .before .wide .ensures), sym (c .before .before .before .wide2 .ensures), ne-eqb _ _ (c .before .before .if1 .left), eq-eqb _ _ (c .before .if2 .taken)) (c .if-may2 .ensures .is); can = c .if-may2 .ensures .can }
+returns-2 c =
+    let w = c .before .before .before in
+    simp (
+      sym (w .before .before .slot-at .ensures),
+      sym (w .before .wide .ensures),
+      sym (w .wide2 .ensures),
+      ne-eqb _ _ (c .before .before .if1 .left),
+      eq-eqb _ _ (c .before .if2 .taken),
+    )
+    (c .if-may2 .ensures)
 
 sub-replacing : tie.Need-sub-replacing
 sub-replacing c = search needs
 
 replacing-requires : tie.Need-replacing-requires
-replacing-requires c κs = let p = c .before .before .before .before .before .before .pre in (p .0, p .1, p .2, omega arith, read-son _ _ _ Right (c .before .before .before .before .before .before .pre .5) (c .before .before .before .before .slot-at .ensures) (c .before .before .wide2 .ensures))
+replacing-requires c κs =
+    let r = c .before .before .before .before in
+    let p = r .before .before .pre in
+    (p .0, p .1, p .2, omega arith, read-son _ _ _ Right (p .5) (r .slot-at .ensures) (c .before .before .wide2 .ensures))
 
 returns-3 : tie.Need-returns-3
 unfolding dropAt
-returns-3 c = record { is = simp (sym (c .before .before .before .before .before .slot-at .ensures), sym (c .before .before .before .before .wide .ensures), sym (c .before .before .before .wide2 .ensures), ne-eqb _ _ (c .before .before .if1 .left), ne-eqb _ _ (c .before .if2 .left)) (c .replacing .ensures .is); can = c .replacing .ensures .can }
+returns-3 c =
+    let w = c .before .before .before in
+    simp (
+      sym (w .before .before .slot-at .ensures),
+      sym (w .before .wide .ensures),
+      sym (w .wide2 .ensures),
+      ne-eqb _ _ (c .before .before .if1 .left),
+      ne-eqb _ _ (c .before .if2 .left),
+    )
+    (c .replacing .ensures)
 
 pub drop-at-spec : {M : Type 1} → statement M
 drop-at-spec =

@@ -14,7 +14,10 @@ enum-known-w : tie.Need-enum-known-w
 enum-known-w c = search needs
 
 drop-at-requires : tie.Need-drop-at-requires
-drop-at-requires c κs = let p = c .before .before .before .before .pre in let i = rw (c .before .w .given .1) at (p .1) in let f = rw (c .before .w .given .1) at (p .2) in (p .0, i .0, i .1, i .2, i .4, f)
+drop-at-requires c κs =
+    let p = c .before .before .before .before .pre in
+    let i = rw (c .before .w .given .1) at (p .1) in
+    (p .0, i .0, i .1, i .2, i .4, rw (c .before .w .given .1) at (p .2))
 
 returns : tie.Need-returns
 unfolding droppingAt
@@ -26,7 +29,7 @@ returns-2 c = record { is = simp (c .enum-told2 .given .1); can = tt }
 
 returns-3 : tie.Need-returns-3
 unfolding droppingAt
-returns-3 c = record { is = simp (c .before .before .w .given .1) (c .drop-at .ensures .is); can = c .drop-at .ensures .can }
+returns-3 c = simp (c .before .before .w .given .1) (c .drop-at .ensures)
 
 pub dropping-at-spec : {M : Type 1} → statement M
 dropping-at-spec =

@@ -21,11 +21,22 @@ change-requires c κs = search needs
 
 returns-2 : tie.Need-returns-2
 unfolding ifMay
-returns-2 c = record { is = simp (sym (c .before .before .before .records .ensures), ne-eqb _ _ (c .before .before .if1 .left), sym (c .before .change .ensures), lt-ltb _ _ (c .if2 .taken)); can = can-drop (now (c .before .before .before .before .before .args .t)) (c .before .before .before .before .before .args .plan) (c .before .before .before .before .before .pre .1) (record { some = omega arith; change = omega arith }) }
+returns-2 c =
+    let b = c .before .before .before in
+    let s = b .before .before in
+    record {
+      is = simp (sym (b .records .ensures), ne-eqb _ _ (c .before .before .if1 .left), sym (c .before .change .ensures), lt-ltb _ _ (c .if2 .taken));
+      can = can-drop (now (s .args .t)) (s .args .plan) (s .pre .1) (record { some = omega arith; change = omega arith });
+    }
 
 returns-3 : tie.Need-returns-3
 unfolding ifMay
-returns-3 c = record { is = simp (sym (c .before .before .before .records .ensures), ne-eqb _ _ (c .before .before .if1 .left), sym (c .before .change .ensures), le-ltb _ _ (c .if2 .left)); can = tt }
+returns-3 c =
+    let b = c .before .before in
+    record {
+      is = simp (sym (b .before .records .ensures), ne-eqb _ _ (b .if1 .left), sym (c .before .change .ensures), le-ltb _ _ (c .if2 .left));
+      can = tt;
+    }
 
 pub if-may-spec : {M : Type 1} → statement M
 if-may-spec = tie.close (tie.spec records-requires returns change-requires returns-2 returns-3)

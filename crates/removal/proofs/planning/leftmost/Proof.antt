@@ -19,7 +19,8 @@ loop-holds : tie.Need-loop-holds Inv-loop μ-loop
 loop-holds c = let p = c .before .pre in record { rest = refl; first = p .1; last = p .2; holder = p .3 }
 
 slot-at-requires : tie.Need-slot-at-requires Inv-loop μ-loop
-slot-at-requires c κs = in-table _ (c .before .before .before .pre .0 .sized) (c .before .loop .inv .first) (c .before .loop .inv .last)
+slot-at-requires c κs =
+    let b = c .before in in-table _ (b .before .before .pre .0 .sized) (b .loop .inv .first) (b .loop .inv .last)
 
 fit-requires : tie.Need-fit-requires Inv-loop μ-loop
 fit-requires c κs = search needs
@@ -34,16 +35,24 @@ loop-less : tie.Need-loop-less Inv-loop μ-loop
 loop-less c = omega arith
 
 loop-again : tie.Need-loop-again Inv-loop μ-loop
-loop-again c = down-on (c .before .before .before .before .before .before .loop .inv) (c .before .before .before .before .before .if1 .left) (c .before .before .before .before .slot-at .ensures) (c .before .before .before .fit .ensures) (c .before .before .if2 .taken) (c .before .wide .ensures) (c .if3 .left)
+loop-again c =
+    let r = c .before .before .before .before in
+    down-on (r .before .before .loop .inv) (r .before .if1 .left) (r .slot-at .ensures) (c .before .before .before .fit .ensures)
+    (c .before .before .if2 .taken) (c .before .wide .ensures) (c .if3 .left)
 
 returns : tie.Need-returns Inv-loop μ-loop
 returns c = down-spent (c .before .loop .inv) (c .if1 .taken)
 
 returns-2 : tie.Need-returns-2 Inv-loop μ-loop
-returns-2 c = down-here (c .before .before .before .before .before .before .loop .inv) (c .before .before .before .before .before .if1 .left) (c .before .before .before .before .slot-at .ensures) (c .before .before .before .fit .ensures) (c .before .before .if2 .taken) (c .before .wide .ensures) (c .if3 .taken)
+returns-2 c =
+    let r = c .before .before .before .before in
+    down-here (r .before .before .loop .inv) (r .before .if1 .left) (r .slot-at .ensures) (c .before .before .before .fit .ensures)
+    (c .before .before .if2 .taken) (c .before .wide .ensures) (c .if3 .taken)
 
 returns-3 : tie.Need-returns-3 Inv-loop μ-loop
-returns-3 c = down-unfit (c .before .before .before .before .loop .inv) (c .before .before .before .if1 .left) (c .before .before .slot-at .ensures) (c .before .fit .ensures) (c .if2 .left)
+returns-3 c =
+    let r = c .before .before in
+    down-unfit (r .before .before .loop .inv) (r .before .if1 .left) (r .slot-at .ensures) (c .before .fit .ensures) (c .if2 .left)
 
 pub leftmost-spec : {M : Type 1} → statement M
 leftmost-spec =

@@ -20,7 +20,10 @@ search-requires : tie.Need-search-requires
 search-requires c κs = gate-ready _ _ _ (sym (c .before .before .before .enter .ensures) ∙ c .before .c .given .1)
 
 dropping-at-requires : tie.Need-dropping-at-requires
-dropping-at-requires c κs = (gate-ready _ _ _ (sym (c .before .before .before .before .enter .ensures) ∙ c .before .before .c .given .1), c .search .ensures .inside, hit-fits _ _ _ _ (c .search .ensures .is))
+dropping-at-requires c κs =
+    let b = c .before .before in
+    let s = c .search .ensures in
+    (gate-ready _ _ _ (sym (b .before .before .enter .ensures) ∙ b .c .given .1), s .inside, hit-fits _ _ _ _ (s .is))
 
 returns : tie.Need-returns
 unfolding dropPlan
@@ -28,7 +31,9 @@ returns c = record { is = simp (sym (c .before .before .before .enter .ensures),
 
 returns-2 : tie.Need-returns-2
 unfolding dropPlan
-returns-2 c = record { is = simp (sym (c .before .before .before .before .before .enter .ensures), c .before .before .before .c .given .1, sym (c .before .search .ensures .is)) (c .dropping-at .ensures .is); can = c .dropping-at .ensures .can }
+returns-2 c =
+    let b = c .before .before .before in
+    simp (sym (b .before .before .enter .ensures), b .c .given .1, sym (c .before .search .ensures .is)) (c .dropping-at .ensures)
 
 pub plan-drop-spec : {M : Type 1} → statement M
 plan-drop-spec =

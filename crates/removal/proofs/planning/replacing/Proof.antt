@@ -15,13 +15,19 @@ enum-known-least : tie.Need-enum-known-least
 enum-known-least c = search needs
 
 if-may-requires : tie.Need-if-may-requires
-if-may-requires c κs = let p = c .before .before .before .before .before .pre in let i = rw (c .before .least .given .1) at (c .before .before .before .leftmost .ensures .inside) in (omega arith, record { placed = record { slots = c .before .before .before .before .before .args .c; ready = p .0; first = p .1; last = p .2 }; inside = i })
+if-may-requires c κs =
+    let b = c .before in
+    let s = b .before .before .before .before in
+    let p = s .pre in
+    let i = rw (b .least .given .1) at (b .before .before .leftmost .ensures .inside) in
+    (omega arith, record { placed = record { slots = s .args .c; ready = p .0; first = p .1; last = p .2 }; inside = i })
 
 returns : tie.Need-returns
 returns c = record { is = simp (sym (c .before .before .leftmost .ensures .is), c .enum-told .given .1); can = tt }
 
 returns-2 : tie.Need-returns-2
-returns-2 c = record { is = simp (sym (c .before .before .before .before .leftmost .ensures .is), c .before .before .least .given .1) (c .if-may .ensures .is); can = c .if-may .ensures .can }
+returns-2 c =
+    let b = c .before .before in simp (sym (b .before .before .leftmost .ensures .is), b .least .given .1) (c .if-may .ensures)
 
 pub replacing-spec : {M : Type 1} → statement M
 replacing-spec =

@@ -1,7 +1,6 @@
 -- `removal::lift` meets its contract. Assumes nothing.
-use mathlib.Core.Path.{sym}
 use borrow.Author.Needs.{needs}
-use Rattle.scope.specs.Drop.{dropped}
+use Rattle.removal.proofs.Written.{lifted-by}
 use Rattle.removal.proofs.taking.lift.Statement.{statement}
 use Rattle.removal.proofs.taking.lift.Tie as tie
 
@@ -21,8 +20,10 @@ same-length : tie.Need-same-length
 same-length c = search needs
 
 returns : tie.Need-returns
-unfolding dropped
-returns c = (simp (sym (c .before .before .before .before .before .before .before .before .change .ensures)) (c .before .before .vacate .ensures .0), simp (sym (c .before .before .before .before .before .before .before .before .before .before .records .ensures), sym (c .before .before .before .before .before .before .before .before .change .ensures), sym (c .before .before .before .before .before .before .relink .ensures)) (c .before .before .vacate .ensures .1))
+returns c =
+    let b = c .before .before .before .before .before .before in
+    lifted-by _ _ _ (b .before .before .before .before .records .ensures) (b .before .before .change .ensures) _
+    (b .relink .ensures) (c .before .before .vacate .ensures)
 
 pub lift-spec : {M : Type 1} → statement M
 lift-spec =

@@ -1,9 +1,7 @@
 -- `removal::replace` meets its contract. Assumes nothing.
-use mathlib.Core.Path.{sym}
 use native.Mathlib.Omega.{arith}
 use borrow.Author.Needs.{needs}
-use Rattle.scope.specs.Drop.{dropped}
-use Rattle.removal.proofs.Replaced.{replaced-by}
+use Rattle.removal.proofs.Written.{replaced-by}
 use Rattle.removal.proofs.taking.replace.Statement.{statement}
 use Rattle.removal.proofs.taking.replace.Tie as tie
 
@@ -23,7 +21,15 @@ wide-requires : tie.Need-wide-requires
 wide-requires c κs = search needs
 
 relink-requires : tie.Need-relink-requires
-relink-requires c κs = let p = c .before .before .before .before .before .before .before .before .before .before .before .before .before .pre .aimed in record { slots = p .placed .slots; sized = omega arith; held = p .inside .2; below = simp (c .wide .ensures, c .before .before .before .before .before .before .slot-at .ensures) (p .inside .3) }
+relink-requires c κs =
+    let b = c .before .before .before .before .before .before in
+    let p = b .before .before .before .before .before .before .before .pre .aimed in
+    record {
+      slots = p .placed .slots;
+      sized = omega arith;
+      held = p .inside .2;
+      below = simp (c .wide .ensures, b .slot-at .ensures) (p .inside .3);
+    }
 
 vacate-requires : tie.Need-vacate-requires
 vacate-requires c κs = search needs
@@ -32,8 +38,12 @@ same-length : tie.Need-same-length
 same-length c = search needs
 
 returns : tie.Need-returns
-unfolding dropped
-returns c = (simp (sym (c .before .before .before .before .before .before .before .before .before .before .before .before .before .before .before .change .ensures)) (c .before .before .vacate .ensures .0), replaced-by _ _ _ _ (c .before .before .before .before .before .before .before .before .before .before .before .before .before .before .before .before .before .records .ensures) (c .before .before .before .before .before .before .before .before .before .before .before .before .before .before .before .change .ensures) (c .before .before .before .before .before .before .before .before .before .before .before .before .before .slot-at .ensures) (c .before .before .before .before .before .before .before .wide .ensures) (c .before .before .before .before .before .before .before .before .before .before .before .take-record .ensures) (c .before .before .before .before .before .before .relink .ensures) (c .before .before .vacate .ensures .1))
+returns c =
+    let b = c .before .before .before .before .before .before in
+    let r = b .before .before .before .before .before .before .before in
+    replaced-by _ _ _ (r .before .before .before .before .records .ensures) (r .before .before .change .ensures) _
+    (r .slot-at .ensures) (b .before .wide .ensures) (b .before .before .before .before .before .take-record .ensures)
+    (b .relink .ensures) (c .before .before .vacate .ensures)
 
 pub replace-spec : {M : Type 1} → statement M
 replace-spec =

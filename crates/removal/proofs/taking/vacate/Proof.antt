@@ -17,7 +17,7 @@ same-length : tie.Need-same-length
 same-length c = search needs
 
 returns : tie.Need-returns
-returns c = (c .before .before .settle .ensures .0, simp (sym (c .before .before .before .before .before .before .put-slot .ensures)) (c .before .before .settle .ensures .1))
+returns c = simp (sym (c .before .before .before .before .before .before .put-slot .ensures)) (c .before .before .settle .ensures)
 
 pub vacate-spec : {M : Type 1} → statement M
 vacate-spec = tie.close (tie.spec put-slot-requires sub-settle settle-requires same-length returns)
