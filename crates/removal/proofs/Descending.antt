@@ -1,4 +1,4 @@
--- The way down to the leftmost slot: what is left of it gives the whole answer, and one law for each way on or out. Assumes nothing.
+-- The way down to the leftmost slot: what is left of it gives the whole answer. Assumes nothing.
 use Prim.Native.Nat.{ℕ, zero, suc, _-_, _≤_}
 use mathlib.Core.Path.{_≡_, refl, sym, _∙_}
 use mathlib.Core.Bool.{Bool, true, false}
@@ -31,7 +31,8 @@ module _ (t : List ℕ) (c at : ℕ) (held : Link) where
   unfolding leftmostFrom
   unfit n m e f = rw e (simp f)
 
-  here : (n m : ℕ) → n ≡ suc m → fitSlot c (slotAt t at) ≡ true → slotAt t at .left ≡ 0 → leftmostFrom n t c at held ≡ Is at held
+  here : (n m : ℕ) → n ≡ suc m → fitSlot c (slotAt t at) ≡ true → slotAt t at .left ≡ 0
+      → leftmostFrom n t c at held ≡ Is at held
   unfolding leftmostFrom
   here n m e f z = rw e (simp (f, eq-eqb _ _ z))
 

@@ -16,13 +16,15 @@ module _ (t : List ℕ) (slot : ℕ) (link : Link) {y u : List ℕ} {count chang
     (counted : count ≡ word t countWord) (numbered : change ≡ word t changeWord) where
   -- y is t with the son at the record's link
   pub lifted-by : (son : ℕ) → y ≡ relinked t link son
-      → Does (settled (withSlot y slot zeroSlot) (count - 1) change slot) a u → Does (dropped t (Lift slot link son)) a u
+      → Does (settled (withSlot y slot zeroSlot) (count - 1) change slot) a u
+      → Does (dropped t (Lift slot link son)) a u
   unfolding dropped
   lifted-by son q done = simp (sym q, sym counted, sym numbered) done
 
   -- m is the least, x is t with its record in the slot, y is x with its right son at its link
   pub replaced-by : (least : ℕ) {m : Slot} {right : ℕ} {x : List ℕ} → m ≡ slotAt t least → right ≡ m .right
       → x ≡ withSlot t slot (withRecord (slotAt t slot) m) → y ≡ relinked x link right
-      → Does (settled (withSlot y least zeroSlot) (count - 1) change least) a u → Does (dropped t (Replace slot least link)) a u
+      → Does (settled (withSlot y least zeroSlot) (count - 1) change least) a u
+      → Does (dropped t (Replace slot least link)) a u
   unfolding dropped
   replaced-by least e r p q done = simp (sym e, sym r, sym p, sym q, sym counted, sym numbered) done

@@ -7,6 +7,7 @@ use Rattle.scope.specs.Numbers.{lastChange}
 use Rattle.scope.specs.Table.{word, countWord, changeWord, slotAt}
 use Rattle.scope.specs.Fit.{fitSlot}
 use Rattle.scope.specs.declared.side.Link.{Link}
+use Rattle.scope.specs.declared.side.Side.the-variants.{Right}
 use Rattle.scope.specs.declared.outcome.Walk.{Walk}
 use Rattle.scope.specs.declared.outcome.Walk.the-variants as walk
 use Rattle.scope.specs.declared.outcome.Leftmost.{Leftmost}
@@ -21,6 +22,19 @@ abbrev pub HitFits : List ℕ → ℕ → Walk → Type 0
 HitFits t c (walk.Hit slot link seen) = fitSlot c (slotAt t slot) ≡ true
 HitFits t c (walk.Miss link seen) = Unit {0}
 HitFits t c walk.Damage = Unit {0}
+
+-- a fit slot of the table, found by its key at a link, after so many visits
+pub record Found (t : List ℕ) (c slot : ℕ) (link : Link) (visits : ℕ) : Type 0 where
+  pub ready : Ready t c
+  pub first : 1 ≤ slot
+  pub last : slot ≤ c
+  pub held : link .holder ≤ c
+  pub seen : visits ≤ c
+  pub fits : fitSlot c (slotAt t slot) ≡ true
+
+-- the link on the right of a slot
+abbrev pub rightLink : ℕ → Link
+rightLink slot = record { holder = slot; side = Right }
 
 -- a link of the table, and a slot or none to hang there
 pub record Linkable (t : List ℕ) (link : Link) (son : ℕ) : Type 0 where

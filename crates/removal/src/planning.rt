@@ -7,17 +7,11 @@ use scope::Link;
 use scope::Refusal;
 use scope::Side;
 use scope::Walk;
-ghost use mathlib.Core.Path.{_≡_};
-ghost use mathlib.Core.Bool.{true};
-ghost use Prim.Native.Nat.{_-_, _≤_};
-ghost use Rattle.scope.specs.Table.{slotAt};
-ghost use Rattle.scope.specs.Fit.{fitSlot};
+ghost use Prim.Native.Nat.{_≤_};
 ghost use Rattle.scope.specs.Drop.{leftmostFrom, ifMay, replacing, dropAt, droppingAt, dropPlan};
-ghost use Rattle.scope.specs.declared.side.Link.{Link};
-ghost use Rattle.scope.specs.declared.side.Side.the-variants.{Right};
 ghost use Rattle.words.specs.Ready.{Headed, Ready};
 ghost use Rattle.walk.specs.Walked.{Inside};
-ghost use Rattle.removal.specs.Planned.{HitFits, Reached, Aimed, Planned};
+ghost use Rattle.removal.specs.Planned.{HitFits, Found, rightLink, Reached, Aimed, Planned};
 
 // The leftmost slot below a slot that hangs at a link, where at most `most` slots are visited.
 pub fn leftmost(t: &[u32], c: usize, most: usize, slot: usize, link: Link) -> Leftmost
@@ -70,7 +64,7 @@ pub fn if_may(t: &[u32], plan: Dropping) -> Dropping
 // With two sons the walk goes on to the leftmost on the right, where at most `most` slots are visited.
 pub fn replacing(t: &[u32], c: usize, most: usize, slot: usize, right: usize) -> Dropping
     requires { ⌜ Ready (now t) c × (1 ≤ slot) × (slot ≤ c) × (1 ≤ right) × (right ≤ c) ⌝ }
-    ensures { λ r. ⌜ Planned (now (t .entry)) (replacing (now (t .entry)) slot (leftmostFrom most (now (t .entry)) c right (record { holder = slot; side = Right }))) r ⌝ }
+    ensures { λ r. ⌜ Planned (now (t .entry)) (replacing (now (t .entry)) slot (leftmostFrom most (now (t .entry)) c right (rightLink slot))) r ⌝ }
 {
     let link = Link {
         holder: slot,
@@ -94,7 +88,7 @@ pub fn replacing(t: &[u32], c: usize, most: usize, slot: usize, right: usize) ->
 
 // What is to be done with the record of a fit slot, found after `seen` visits.
 pub fn drop_at(t: &[u32], c: usize, slot: usize, link: Link, seen: usize) -> Dropping
-    requires { ⌜ Ready (now t) c × (1 ≤ slot) × (slot ≤ c) × (link .holder ≤ c) × (seen ≤ c) × (fitSlot c (slotAt (now t) slot) ≡ true) ⌝ }
+    requires { ⌜ Found (now t) c slot link seen ⌝ }
     ensures { λ r. ⌜ Planned (now (t .entry)) (dropAt (now (t .entry)) c slot link seen) r ⌝ }
 {
     let s = words::slot_at(t, slot);

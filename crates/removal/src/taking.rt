@@ -4,6 +4,7 @@ use scope::Answer;
 use scope::Dropping;
 use scope::Link;
 use scope::Slot;
+use scope::State;
 ghost use mathlib.Core.Path.{_≡_};
 ghost use Prim.Native.Nat.{_-_, _≤_, _<_};
 ghost use Rattle.scope.specs.Numbers.{lastChange};
@@ -53,7 +54,7 @@ pub fn vacate(t: &mut [u32], slot: usize, count: usize, change: u32) -> Answer
     ensures { λ r. ⌜ Does (settled (withSlot (now (t .entry)) slot zeroSlot) (count - 1) change slot) r (now (t .exit)) ⌝ }
 {
     let zeros = Slot {
-        state: 0,
+        state: State::FREE,
         key: 0,
         pieces: 0,
         left: 0,

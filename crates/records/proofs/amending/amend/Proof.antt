@@ -28,7 +28,8 @@ same-length c = search needs
 returns : tie.Need-returns
 unfolding amendOf amended
 returns c =
-    let b = c .before .before in carried (amended _ _ _) (b .before .before .plan-amend .ensures .is) (b .why .given .1) (c .refuse .ensures, refl)
+    let b = c .before .before in
+    carried (amended _ _ _) (b .before .before .plan-amend .ensures .is) (b .why .given .1) (c .refuse .ensures, refl)
 
 same-length-2 : tie.Need-same-length-2
 same-length-2 c = search needs
@@ -37,7 +38,8 @@ returns-2 : tie.Need-returns-2
 unfolding amendOf
 returns-2 c =
     let b = c .before .before .before .before .before in
-    carried (amended _ _ _) (b .before .before .plan-amend .ensures .is) (b .slot .given .1) (c .before .before .change-record .ensures)
+    carried (amended _ _ _) (b .before .before .plan-amend .ensures .is) (b .slot .given .1)
+    (c .before .before .change-record .ensures)
 
 pub amend-spec : {M : Type 1} → statement M
 amend-spec =

@@ -44,7 +44,10 @@ returns-3 c =
 returns-4 : tie.Need-returns-4
 unfolding amendingAt
 returns-4 c =
-    record { is = simp (c .before .before .before .w .given .1, sym (c .before .change .ensures), le-ltb _ _ (c .if1 .left)); can = tt }
+    record {
+      is = simp (c .before .before .before .w .given .1, sym (c .before .change .ensures), le-ltb _ _ (c .if1 .left));
+      can = tt;
+    }
 
 pub amending-at-spec : {M : Type 1} → statement M
 amending-at-spec =

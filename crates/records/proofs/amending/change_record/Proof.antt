@@ -24,7 +24,8 @@ returns : tie.Need-returns
 unfolding amended
 returns c =
     let b = c .before .before .before .before .before .before in
-    simp (sym (b .before .before .before .before .change .ensures), sym (b .before .before .slot-at .ensures), sym (b .put-slot .ensures))
+    let s = b .before .before in
+    simp (sym (s .before .before .change .ensures), sym (s .slot-at .ensures), sym (b .put-slot .ensures))
     (c .before .before .next-change .ensures)
 
 pub change-record-spec : {M : Type 1} → statement M

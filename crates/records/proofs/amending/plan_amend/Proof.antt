@@ -23,19 +23,24 @@ search-requires c κs = gate-ready _ _ _ (sym (c .before .before .before .enter 
 
 amending-at-requires : tie.Need-amending-at-requires
 amending-at-requires c κs =
-    let b = c .before .before in (gate-ready _ _ _ (sym (b .before .before .enter .ensures) ∙ b .c .given .1), c .search .ensures .inside)
+    let b = c .before .before in
+    (gate-ready _ _ _ (sym (b .before .before .enter .ensures) ∙ b .c .given .1), c .search .ensures .inside)
 
 returns : tie.Need-returns
 unfolding amendPlan
 returns c =
     let b = c .before .before .before in
-    record { is = simp (sym (b .before .record-ok .ensures), sym (b .enter .ensures), c .before .why .given .1); can = tt }
+    record {
+      is = simp (sym (b .before .record-ok .ensures), sym (b .enter .ensures), c .before .why .given .1);
+      can = tt;
+    }
 
 returns-2 : tie.Need-returns-2
 unfolding amendPlan
 returns-2 c =
-    let b = c .before .before .before .before .before in
-    simp (sym (b .before .record-ok .ensures), sym (b .enter .ensures), c .before .before .before .c .given .1, sym (c .before .search .ensures .is))
+    let g = c .before .before .before in
+    let b = g .before .before in
+    simp (sym (b .before .record-ok .ensures), sym (b .enter .ensures), g .c .given .1, sym (c .before .search .ensures .is))
     (c .amending-at .ensures)
 
 pub plan-amend-spec : {M : Type 1} → statement M

@@ -22,7 +22,8 @@ state-at-requires c κs =
 
 returns : tie.Need-returns Inv-loop μ-loop
 returns c =
-    let l = c .before .before in seek-here (l .before .loop .inv) (l .loop-test .taken) (sym (c .before .state-at .ensures) ∙ c .if1 .taken)
+    let l = c .before .before in
+    seek-here (l .before .loop .inv) (l .loop-test .taken) (sym (c .before .state-at .ensures) ∙ c .if1 .taken)
 
 add-k : tie.Need-add-k Inv-loop μ-loop
 add-k c = omega arith
@@ -32,7 +33,8 @@ loop-less c = omega arith
 
 loop-again : tie.Need-loop-again Inv-loop μ-loop
 loop-again c =
-    let l = c .before .before in seek-on (l .before .loop .inv) (l .loop-test .taken) (λ z. c .if1 .left (c .before .state-at .ensures ∙ z))
+    let l = c .before .before in
+    seek-on (l .before .loop .inv) (l .loop-test .taken) (λ z. c .if1 .left (c .before .state-at .ensures ∙ z))
 
 returns-2 : tie.Need-returns-2 Inv-loop μ-loop
 returns-2 c = seek-end (c .before .loop .inv) (c .loop-test .left)

@@ -31,7 +31,8 @@ same-length c = search needs
 returns : tie.Need-returns
 unfolding postOf posted
 returns c =
-    let b = c .before .before in carried (posted _ _) (b .before .before .plan-post .ensures .is) (b .why .given .1) (c .refuse .ensures, refl)
+    let b = c .before .before in
+    carried (posted _ _) (b .before .before .plan-post .ensures .is) (b .why .given .1) (c .refuse .ensures, refl)
 
 same-length-2 : tie.Need-same-length-2
 same-length-2 c = search needs

@@ -33,7 +33,8 @@ returns-2 c = record { is = simp (c .enum-told2 .given .1); can = tt }
 
 returns-3 : tie.Need-returns-3
 unfolding postingAt
-returns-3 c = simp (c .before .before .before .w .given .1, sym (c .before .free-slot .ensures .is)) (c .hang-at .ensures)
+returns-3 c =
+    simp (c .before .before .before .w .given .1, sym (c .before .free-slot .ensures .is)) (c .hang-at .ensures)
 
 pub posting-at-spec : {M : Type 1} → statement M
 posting-at-spec =

@@ -23,7 +23,8 @@ same-length c = search needs
 
 returns : tie.Need-returns
 returns c =
-    (simp (c .accept .ensures, c .before .before .long .ensures, c .before .size .ensures), c .before .before .before .before .before .put-change .ensures)
+    let b = c .before .before in
+    (simp (c .accept .ensures, b .long .ensures, c .before .size .ensures), b .before .before .before .put-change .ensures)
 
 pub next-change-spec : {M : Type 1} → statement M
 next-change-spec =

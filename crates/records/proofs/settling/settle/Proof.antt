@@ -14,7 +14,9 @@ same-length : tie.Need-same-length
 same-length c = search needs
 
 returns : tie.Need-returns
-returns c = simp (sym (c .before .before .before .before .before .before .put-records .ensures)) (c .before .before .next-change .ensures)
+returns c =
+    simp (sym (c .before .before .before .before .before .before .put-records .ensures))
+    (c .before .before .next-change .ensures)
 
 pub settle-spec : {M : Type 1} → statement M
 settle-spec = tie.close (tie.spec put-records-requires next-change-requires same-length returns)

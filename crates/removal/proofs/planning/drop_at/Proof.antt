@@ -5,12 +5,13 @@ use borrow.Author.Needs.{needs}
 use borrow.Author.Tests.{eq-eqb, ne-eqb}
 use Rattle.scope.specs.Drop.{dropAt}
 use Rattle.scope.specs.declared.side.Side.the-variants.{Left, Right}
+use Rattle.words.proofs.Laws.{in-table}
 use Rattle.removal.proofs.Plans.{read-son, aim-lift}
 use Rattle.removal.proofs.planning.drop_at.Statement.{statement}
 use Rattle.removal.proofs.planning.drop_at.Tie as tie
 
 slot-at-requires : tie.Need-slot-at-requires
-slot-at-requires c κs = search needs
+slot-at-requires c κs = let p = c .before .pre in in-table _ (p .ready .sized) (p .first) (p .last)
 
 wide-requires : tie.Need-wide-requires
 wide-requires c κs = search needs
@@ -22,20 +23,25 @@ if-may-requires : tie.Need-if-may-requires
 if-may-requires c κs =
     let r = c .before .before .before in
     let p = r .before .before .pre in
-    (omega arith, aim-lift (p .0) (p .1) (p .2) (p .3) (read-son _ _ _ Right (p .5) (r .slot-at .ensures) (c .before .wide2 .ensures)))
+    (omega arith, aim-lift p (read-son p Right (r .slot-at .ensures) (c .before .wide2 .ensures)))
 
 returns : tie.Need-returns
 unfolding dropAt
 returns c =
-    let r = c .before .before .before .before in
-    simp (sym (r .slot-at .ensures), sym (c .before .before .before .wide .ensures), sym (c .before .before .wide2 .ensures), eq-eqb _ _ (c .before .if1 .taken))
+    let w = c .before .before in
+    simp (
+      sym (w .before .before .slot-at .ensures),
+      sym (w .before .wide .ensures),
+      sym (w .wide2 .ensures),
+      eq-eqb _ _ (c .before .if1 .taken),
+    )
     (c .if-may .ensures)
 
 if-may-requires-2 : tie.Need-if-may-requires-2
 if-may-requires-2 c κs =
     let r = c .before .before .before .before in
     let p = r .before .before .pre in
-    (omega arith, aim-lift (p .0) (p .1) (p .2) (p .3) (read-son _ _ _ Left (p .5) (r .slot-at .ensures) (c .before .before .before .wide .ensures)))
+    (omega arith, aim-lift p (read-son p Left (r .slot-at .ensures) (c .before .before .before .wide .ensures)))
 
 returns-2 : tie.Need-returns-2
 unfolding dropAt
@@ -57,7 +63,7 @@ replacing-requires : tie.Need-replacing-requires
 replacing-requires c κs =
     let r = c .before .before .before .before in
     let p = r .before .before .pre in
-    (p .0, p .1, p .2, omega arith, read-son _ _ _ Right (p .5) (r .slot-at .ensures) (c .before .before .wide2 .ensures))
+    (p .ready, p .first, p .last, omega arith, read-son p Right (r .slot-at .ensures) (c .before .before .wide2 .ensures))
 
 returns-3 : tie.Need-returns-3
 unfolding dropAt

@@ -17,7 +17,14 @@ drop-at-requires : tie.Need-drop-at-requires
 drop-at-requires c κs =
     let p = c .before .before .before .before .pre in
     let i = rw (c .before .w .given .1) at (p .1) in
-    (p .0, i .0, i .1, i .2, i .4, rw (c .before .w .given .1) at (p .2))
+    record {
+      ready = p .0;
+      first = i .0;
+      last = i .1;
+      held = i .2;
+      seen = i .4;
+      fits = rw (c .before .w .given .1) at (p .2);
+    }
 
 returns : tie.Need-returns
 unfolding droppingAt

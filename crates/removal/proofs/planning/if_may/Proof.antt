@@ -22,19 +22,19 @@ change-requires c κs = search needs
 returns-2 : tie.Need-returns-2
 unfolding ifMay
 returns-2 c =
-    let b = c .before .before .before in
-    let s = b .before .before in
+    let i = c .before .before in
+    let s = i .before .before .before in
     record {
-      is = simp (sym (b .records .ensures), ne-eqb _ _ (c .before .before .if1 .left), sym (c .before .change .ensures), lt-ltb _ _ (c .if2 .taken));
+      is = simp (sym (i .before .records .ensures), ne-eqb _ _ (i .if1 .left), sym (c .before .change .ensures), lt-ltb _ _ (c .if2 .taken));
       can = can-drop (now (s .args .t)) (s .args .plan) (s .pre .1) (record { some = omega arith; change = omega arith });
     }
 
 returns-3 : tie.Need-returns-3
 unfolding ifMay
 returns-3 c =
-    let b = c .before .before in
+    let i = c .before .before in
     record {
-      is = simp (sym (b .before .records .ensures), ne-eqb _ _ (b .if1 .left), sym (c .before .change .ensures), le-ltb _ _ (c .if2 .left));
+      is = simp (sym (i .before .records .ensures), ne-eqb _ _ (i .if1 .left), sym (c .before .change .ensures), le-ltb _ _ (c .if2 .left));
       can = tt;
     }
 

@@ -37,7 +37,8 @@ loop-less c = omega arith
 loop-again : tie.Need-loop-again Inv-loop μ-loop
 loop-again c =
     let r = c .before .before .before .before in
-    down-on (r .before .before .loop .inv) (r .before .if1 .left) (r .slot-at .ensures) (c .before .before .before .fit .ensures)
+    down-on (r .before .before .loop .inv) (r .before .if1 .left) (r .slot-at .ensures)
+    (c .before .before .before .fit .ensures)
     (c .before .before .if2 .taken) (c .before .wide .ensures) (c .if3 .left)
 
 returns : tie.Need-returns Inv-loop μ-loop
@@ -46,13 +47,15 @@ returns c = down-spent (c .before .loop .inv) (c .if1 .taken)
 returns-2 : tie.Need-returns-2 Inv-loop μ-loop
 returns-2 c =
     let r = c .before .before .before .before in
-    down-here (r .before .before .loop .inv) (r .before .if1 .left) (r .slot-at .ensures) (c .before .before .before .fit .ensures)
+    down-here (r .before .before .loop .inv) (r .before .if1 .left) (r .slot-at .ensures)
+    (c .before .before .before .fit .ensures)
     (c .before .before .if2 .taken) (c .before .wide .ensures) (c .if3 .taken)
 
 returns-3 : tie.Need-returns-3 Inv-loop μ-loop
 returns-3 c =
     let r = c .before .before in
-    down-unfit (r .before .before .loop .inv) (r .before .if1 .left) (r .slot-at .ensures) (c .before .fit .ensures) (c .if2 .left)
+    down-unfit (r .before .before .loop .inv) (r .before .if1 .left) (r .slot-at .ensures) (c .before .fit .ensures)
+    (c .if2 .left)
 
 pub leftmost-spec : {M : Type 1} → statement M
 leftmost-spec =

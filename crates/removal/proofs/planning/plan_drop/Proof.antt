@@ -33,7 +33,8 @@ returns-2 : tie.Need-returns-2
 unfolding dropPlan
 returns-2 c =
     let b = c .before .before .before in
-    simp (sym (b .before .before .enter .ensures), b .c .given .1, sym (c .before .search .ensures .is)) (c .dropping-at .ensures)
+    simp (sym (b .before .before .enter .ensures), b .c .given .1, sym (c .before .search .ensures .is))
+    (c .dropping-at .ensures)
 
 pub plan-drop-spec : {M : Type 1} → statement M
 plan-drop-spec =

@@ -35,7 +35,8 @@ same-length c = search needs
 returns : tie.Need-returns
 unfolding dropOf dropped
 returns c =
-    let b = c .before .before in carried (dropped _) (b .before .before .plan-drop .ensures .is) (b .why .given .1) (c .refuse .ensures, refl)
+    let b = c .before .before in
+    carried (dropped _) (b .before .before .plan-drop .ensures .is) (b .why .given .1) (c .refuse .ensures, refl)
 
 same-length-2 : tie.Need-same-length-2
 same-length-2 c = search needs
@@ -44,7 +45,8 @@ returns-2 : tie.Need-returns-2
 unfolding dropOf
 returns-2 c =
     let b = c .before .before .before .before .before in
-    carried (dropped _) (b .before .before .plan-drop .ensures .is) (b .slot .given .1) (c .before .before .lift .ensures)
+    carried (dropped _) (b .before .before .plan-drop .ensures .is) (b .slot .given .1)
+    (c .before .before .lift .ensures)
 
 same-length-3 : tie.Need-same-length-3
 same-length-3 c = search needs
@@ -53,7 +55,8 @@ returns-3 : tie.Need-returns-3
 unfolding dropOf
 returns-3 c =
     let b = c .before .before .before .before .before in
-    carried (dropped _) (b .before .before .plan-drop .ensures .is) (b .slot2 .given .1) (c .before .before .replace .ensures)
+    carried (dropped _) (b .before .before .plan-drop .ensures .is) (b .slot2 .given .1)
+    (c .before .before .replace .ensures)
 
 pub drop-spec : {M : Type 1} → statement M
 drop-spec =

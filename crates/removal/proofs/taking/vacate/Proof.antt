@@ -17,7 +17,9 @@ same-length : tie.Need-same-length
 same-length c = search needs
 
 returns : tie.Need-returns
-returns c = simp (sym (c .before .before .before .before .before .before .put-slot .ensures)) (c .before .before .settle .ensures)
+returns c =
+    simp (sym (c .before .before .before .before .before .before .put-slot .ensures))
+    (c .before .before .settle .ensures)
 
 pub vacate-spec : {M : Type 1} → statement M
 vacate-spec = tie.close (tie.spec put-slot-requires sub-settle settle-requires same-length returns)
