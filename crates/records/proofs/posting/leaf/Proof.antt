@@ -1,0 +1,10 @@
+-- `records::leaf` meets its contract. Assumes nothing.
+use mathlib.Core.Path.{refl}
+use Rattle.records.proofs.posting.leaf.Statement.{statement}
+use Rattle.records.proofs.posting.leaf.Tie as tie
+
+returns : tie.Need-returns
+returns c = refl
+
+pub leaf-spec : {M : Type 1} → statement M
+leaf-spec = tie.close (tie.spec returns)

@@ -1,0 +1,3 @@
+-- How post and amend end, and what their plans are good for.
+pub mod Ends
+pub mod Planned

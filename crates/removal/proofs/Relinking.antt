@@ -1,0 +1,16 @@
+-- What the test before a register is cleared tells. Assumes nothing.
+use Prim.Native.Nat.{ℕ, _≤_}
+use mathlib.Core.Path.{_≡_, refl}
+use mathlib.Core.Bool.{Bool, true, false, not, _||_}
+use native.Mathlib.Omega.{arith}
+use borrow.Author.Tests.{eqb-false}
+use lib.Dec.{eqb}
+use Rattle.scope.proofs.Bools.{neither}
+
+or-r : (a b : Bool) → (a || b) ≡ false → b ≡ false
+or-r true b e = neither {b = true} refl e
+or-r false b e = e
+
+-- a slot holds the link
+pub held-by : (son holder : ℕ) → (not (eqb son 0) || eqb holder 0) ≡ false → 1 ≤ holder
+held-by son holder e = omega (arith, eqb-false holder 0 (or-r (not (eqb son 0)) _ e))

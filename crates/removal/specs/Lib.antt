@@ -1,0 +1,2 @@
+-- What the plan of a drop is good for.
+pub mod Planned
