@@ -1,0 +1,2 @@
+-- What the parts of the soundness check promise.
+pub mod Scan
