@@ -31,6 +31,11 @@ settled-more t m k before here j p q =
     ]
 
 module _ (t : List ℕ) (c : ℕ) where
+  -- the header is bad
+  pub by-header : headerOk c t ≡ false → soundTable t c ≡ false
+  unfolding soundTable
+  by-header e = simp e
+
   -- a number that is no slot is not reached
   outside : (k : ℕ) → ((y : ℕ) → 1 ≤ y → y ≤ c → k ≡ y → ⊥) → (x : ℕ) (T : Tree) → x ≤ c → Spells t c x T → times k T ≡ 0
   unfolding Spells times

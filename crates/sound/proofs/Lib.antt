@@ -4,3 +4,4 @@ pub mod Spell
 pub mod Exact
 pub mod Steps
 pub mod Ends
+pub mod Opened

@@ -1,53 +1,51 @@
+use mathlib.Core.Path.{refl, sym, _∙_}
+use mathlib.Core.List.{[]}
+use native.Mathlib.Omega.{arith}
 use borrow.Author.Needs.{needs}
+use Rattle.words.proofs.Laws.{header-root}
+use Rattle.marks.proofs.Laws.{no-marks}
+use Rattle.sound.proofs.Ends.{by-header, by-scan, by-all}
 use Rattle.sound.proofs.sound.Statement.{statement}
 use Rattle.sound.proofs.sound.Tie as tie
-use Rattle.sound.proofs.sound.Reads as reads
-use Rattle.sound.proofs.sound.Lts as lts
-use Rattle.sound.proofs.rest_blank.Reads as rest-blank-reads
-use Rattle.sound.proofs.scan.Reads as scan-reads
-use Rattle.words.proofs.records.Reads as records-reads
-use Rattle.words.proofs.root.Reads as root-reads
-use Rattle.words.proofs.header_ok.Reads as header-ok-reads
 
--- src/lib.rt:101:8
 header-ok-requires : tie.Need-header-ok-requires
 header-ok-requires c κs = search needs
 
--- src/lib.rt:103:13
 records-requires : tie.Need-records-requires
 records-requires c κs = search needs
 
--- src/lib.rt:104:13
 root-requires : tie.Need-root-requires
 root-requires c κs = search needs
 
--- src/lib.rt:105:15
 scan-requires : tie.Need-scan-requires
-scan-requires c κs = ?
+scan-requires c κs =
+    let at = c .before .before .before .before .before .before .args in
+    let h = header-root (at .c) (at .t .now) (sym (c .before .before .before .before .header-ok .ensures) ∙ c .before .before .before .if1 .taken) in
+    record { sized = c .before .before .before .before .before .before .pre; link = omega (arith, c .before .root .ensures); marks = refl }
 
--- src/lib.rt:106:30
 enum-told : tie.Need-enum-told
 enum-told c = search needs
 
--- src/lib.rt:107:24
 enum-known-missing : tie.Need-enum-known-missing
 enum-known-missing c = search needs
 
--- src/lib.rt:107:53
 rest-blank-requires : tie.Need-rest-blank-requires
 rest-blank-requires c κs = search needs
 
--- src/lib.rt:97:1
 returns : tie.Need-returns
-returns c = ?
+returns c =
+    let bad = rw (c .enum-told .given .1, c .before .before .before .before .before .records .ensures, c .before .before .before .before .root .ensures) at (c .before .before .scan .ensures) in
+    sym (by-scan _ _ (λ i. omega (arith, c .before .before .before .before .before .before .before .before .shared-slice-known .given i)) _ [] no-marks (c .before .before .before .before .before .before .before .before .before .pre .most) bad)
 
--- src/lib.rt:97:1
 returns-2 : tie.Need-returns-2
-returns-2 c = ?
+returns-2 c =
+    let good = rw (c .before .before .before .missing .given .1, c .before .before .before .before .before .before .before .before .records .ensures, c .before .before .before .before .before .before .before .root .ensures) at (c .before .before .before .before .before .scan .ensures) in
+    by-all _ _ (λ i. omega (arith, c .before .before .before .before .before .before .before .before .before .before .before .shared-slice-known .given i)) _ _ no-marks (c .before .before .before .before .before .before .before .before .before .before .before .before .pre .most) _ good
+    (sym (c .before .before .before .before .before .before .before .before .before .before .header-ok .ensures) ∙ c .before .before .before .before .before .before .before .before .before .if1 .taken) (c .rest-blank .result) (c .rest-blank .ensures)
 
--- src/lib.rt:97:1
 returns-3 : tie.Need-returns-3
-returns-3 c = ?
+returns-3 c =
+    sym (by-header _ _ (sym (c .before .header-ok .ensures) ∙ c .if1 .left))
 
 pub sound-spec : {M : Type 1} → statement M
 sound-spec =
