@@ -26,8 +26,8 @@ pub settled-more : (t m : List ℕ) (k : ℕ) → ((j : ℕ) → 1 ≤ j → j <
     → (j : ℕ) → 1 ≤ j → j < k + 1 → settledAt t m j ≡ true
 settled-more t m k before here j p q =
     elim (decLe k j) [
-    | yes h ↦ let e : k ≡ j = omega arith in rw (← e) here
-    | no h ↦ before j p (omega arith)
+      | yes h ↦ let e : k ≡ j = omega arith in rw (← e) here
+      | no h ↦ before j p (omega arith)
     ]
 
 module _ (t : List ℕ) (c : ℕ) where
@@ -52,6 +52,7 @@ module _ (t : List ℕ) (c : ℕ) where
     where
       past : ((y : ℕ) → 1 ≤ y → y ≤ c → k ≡ y → ⊥) → times k (s .tree) ≤ 1
       past h = omega (arith, outside k h (word t rootWord) (s .tree) (header-root c t (s .header)) (s .reached))
+
       go : Dec (1 ≤ k) → Dec (k ≤ c) → times k (s .tree) ≤ 1
       go (yes i) (yes j) = s .once k i j
       go (yes i) (no j) = past (λ y u v e. omega arith)
@@ -97,7 +98,7 @@ module _ (t : List ℕ) (c : ℕ) where
 
       module _ (n : ℕ) (g : Good t z m c (word t countWord) (word t rootWord) 0 4294967296 n) where
         same-tree : (s : Sound t c) → s .tree ≡ g .tree
-        same-tree s = unique t c (word t rootWord) (s .tree) (g .tree) (s .reached) (g .fine .reached)
+        same-tree s = unique t c c (word t rootWord) (s .tree) (g .tree) (s .reached) (g .fine .reached)
 
         -- it reaches fewer slots than word 1 says
         by-count : (n ≡ 0 → ⊥) → soundTable t c ≡ false

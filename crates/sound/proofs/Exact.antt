@@ -43,8 +43,8 @@ module _ (t : List ℕ) (T : Tree) where
   slots-say zero e k p q = absurd (omega arith)
   slots-say (suc c) e k p q =
       elim (decLe k c) [
-      | yes h ↦ slots-say c (and-r (slotOk t T (suc c)) _ e) k p h
-      | no h ↦ let top : suc c ≡ k = omega arith in rw (← top) (and-l _ _ e)
+        | yes h ↦ slots-say c (and-r (slotOk t T (suc c)) _ e) k p h
+        | no h ↦ let top : suc c ≡ k = omega arith in rw (← top) (and-l _ _ e)
       ]
 
   slots-test : (c : ℕ) → ((k : ℕ) → 1 ≤ k → k ≤ c → slotOk t T k ≡ true) → slotsOk t T c ≡ true
@@ -68,7 +68,7 @@ module _ (t : List ℕ) (c : ℕ) where
   from-tree h (some T) p q =
       let test = and-l (eqb (size T) (word t countWord) && ordered T) (slotsOk t T c) q in
       let slots : (k : ℕ) → 1 ≤ k → k ≤ c → Settled t T k =
-          λ k i j. slot-says t T k (slots-say t T c (and-r (eqb (size T) (word t countWord) && ordered T) _ q) k i j) in
+      λ k i j. slot-says t T k (slots-say t T c (and-r (eqb (size T) (word t countWord) && ordered T) _ q) k i j) in
       record {
         header = h;
         tree = T;

@@ -5,3 +5,5 @@ pub mod Exact
 pub mod Steps
 pub mod Ends
 pub mod Opened
+pub mod Frame
+pub mod Zeros

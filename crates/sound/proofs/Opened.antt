@@ -3,20 +3,16 @@ use Prim.Native.Nat.{ℕ}
 use mathlib.Core.Path.{_≡_, sym, _∙_}
 use mathlib.Core.Bool.{Bool}
 use mathlib.Core.List.{List}
-use Rattle.scope.specs.Sound.{soundTable, Sound}
+use Rattle.scope.specs.Sound.{soundTable}
 use Rattle.scope.specs.Sums.{soundGate}
 use Rattle.scope.specs.declared.answer.Gate.{Gate}
 use Rattle.scope.specs.declared.answer.Gate.the-variants.{Open}
-use Rattle.words.specs.Ready.{Sized}
 use Rattle.words.proofs.Laws.{gate-passed}
+use Rattle.sound.specs.Whole.{Whole}
 use Rattle.sound.proofs.Exact.{sound-says}
 
-pub record Opened (t : List ℕ) (c : ℕ) : Type 0 where
-  pub sized : Sized t c
-  pub sound : Sound t c
-
 -- the gate g that the code has found open
-pub opened : (t : List ℕ) (good : Bool) (c : ℕ) {g : Gate} → g ≡ soundGate t good → g ≡ Open c → Opened t c
+pub opened : (t : List ℕ) (good : Bool) (c : ℕ) {g : Gate} → g ≡ soundGate t good → g ≡ Open c → Whole t c
 opened t good c e o =
     let p = gate-passed t good (λ n. soundTable t n) c (sym e ∙ o) in
     record { sized = p .sized; sound = sound-says t c (p .whole-is) }

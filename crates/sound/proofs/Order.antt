@@ -44,9 +44,12 @@ unfolding ordered Ordered
 ordered-says leaf e = tt
 ordered-says (node d h g l r) e =
     let p = and-l (below (d .key) l && above (d .key) r) (ordered l && ordered r) e in
-    let q = and-r (below (d .key) l && above (d .key) r) (ordered l && ordered r) e in
-    (below-says _ l (and-l _ _ p), above-says _ r (and-r (below (d .key) l) _ p),
-    ordered-says l (and-l _ _ q), ordered-says r (and-r (ordered l) _ q))
+    let q = and-r (below (d .key) l && above (d .key) r) (ordered l && ordered r) e in (
+      below-says _ l (and-l _ _ p),
+      above-says _ r (and-r (below (d .key) l) _ p),
+      ordered-says l (and-l _ _ q),
+      ordered-says r (and-r (ordered l) _ q),
+    )
 
 pub ordered-test : (T : Tree) → Ordered T → ordered T ≡ true
 unfolding ordered Ordered
@@ -86,7 +89,9 @@ bounded low high (node d a g l r) p =
 pub between : (low high : ℕ) (T : Tree) → Bounded low high T → Between low high T
 unfolding Between Above Below Ordered
 between low high leaf p = tt
-between low high (node d a g l r) p =
-    (p .above .0, p .below .0,
-    between low (d .key) l (record { above = p .above .1; below = p .order .0; order = p .order .2 }),
-    between (d .key) high r (record { above = p .order .1; below = p .below .2; order = p .order .3 }))
+between low high (node d a g l r) p = (
+  p .above .0,
+  p .below .0,
+  between low (d .key) l (record { above = p .above .1; below = p .order .0; order = p .order .2 }),
+  between (d .key) high r (record { above = p .order .1; below = p .below .2; order = p .order .3 }),
+)

@@ -16,14 +16,22 @@ use Rattle.scope.specs.declared.slot.Slot.{Slot}
 use Rattle.words.proofs.Laws.{header-count}
 
 -- two trees at one link are the same
-pub unique : (t : List ℕ) (c x : ℕ) (T U : Tree) → Spells t c x T → Spells t c x U → T ≡ U
+pub unique : (t : List ℕ) (c c' x : ℕ) (T U : Tree) → Spells t c x T → Spells t c' x U → T ≡ U
 unfolding Spells
-unique t c x leaf leaf p q = refl
-unique t c x leaf (node d a b l r) p q = absurd (omega (arith, q .there))
-unique t c x (node d a b l r) leaf p q = absurd (omega (arith, p .there))
-unique t c x (node d a b l r) (node d' a' b' l' r') p q =
-    cc (unique t c (slotAt t x .left) l l' (p .left) (q .left), unique t c (slotAt t x .right) r r' (p .right) (q .right),
-    p .holds, q .holds, p .lefth, q .lefth, p .righth, q .righth)
+unique t c c' x leaf leaf p q = refl
+unique t c c' x leaf (node d a b l r) p q = absurd (omega (arith, q .there))
+unique t c c' x (node d a b l r) leaf p q = absurd (omega (arith, p .there))
+unique t c c' x (node d a b l r) (node d' a' b' l' r') p q =
+    cc (
+      unique t c c' (slotAt t x .left) l l' (p .left) (q .left),
+      unique t c c' (slotAt t x .right) r r' (p .right) (q .right),
+      p .holds,
+      q .holds,
+      p .lefth,
+      q .lefth,
+      p .righth,
+      q .righth,
+    )
 
 module _ (t : List ℕ) (c : ℕ) where
   -- the tree over slot x with these two below it
@@ -90,4 +98,4 @@ module _ (t : List ℕ) (c : ℕ) where
 
   -- and no other hangs at its root
   pub only-tree : Sound t c → (T : Tree) → Spells t c (word t rootWord) T → T ≡ treeIn t c
-  only-tree s T p = unique t c (word t rootWord) T (s .tree) p (s .reached) ∙ sym (tree-in s)
+  only-tree s T p = unique t c c (word t rootWord) T (s .tree) p (s .reached) ∙ sym (tree-in s)

@@ -115,7 +115,13 @@ module _ (t m : List ℕ) (c x low high : ℕ) where
   unfolding Spells Between times
   together l r p q = record {
     reached = record {
-      there = p; fit = q .place .fit; holds = refl; lefth = refl; righth = refl; left = q .left; right = q .right;
+      there = p;
+      fit = q .place .fit;
+      holds = refl;
+      lefth = refl;
+      righth = refl;
+      left = q .left;
+      right = q .right;
     };
     keys = (q .place .over, q .place .under, q .keys-left, q .keys-right);
     free = q .free;
@@ -165,7 +171,7 @@ module _ (t m : List ℕ) (c x low high : ℕ) where
             → (T : Tree) → Fine t m c x low high T → size T ≤ more → ⊥
         right-refused none′ T f s =
             let (L, R, q, e) = apart T p f in
-            let one : L ≡ g .tree = unique t c l L (g .tree) (left-fine L R q .reached) (g .fine .reached) in
+            let one : L ≡ g .tree = unique t c c l L (g .tree) (left-fine L R q .reached) (g .fine .reached) in
             none′ R
             (record {
               reached = rw (o .right) (q .right);

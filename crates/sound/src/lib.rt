@@ -50,7 +50,15 @@ pub fn visit(t: &[u32], m: &mut [u64; 64], c: usize, x: usize, low: u64, high: u
 }
 
 // Scans what hangs at link x: at most `more` slots, with keys between two bounds.
-pub fn scan(t: &[u32], m: &mut [u64; 64], c: usize, more: usize, x: usize, low: u64, high: u64) -> Scan
+pub fn scan(
+    t: &[u32],
+    m: &mut [u64; 64],
+    c: usize,
+    more: usize,
+    x: usize,
+    low: u64,
+    high: u64,
+) -> Scan
     requires { ⌜ Looking (now t) (now m) c x ⌝ }
     ensures { λ r. ⌜ Scanned (now (t .entry)) (now (m .entry)) (now (m .exit)) c more x low high r ⌝ }
 {

@@ -30,13 +30,14 @@ loop-again c =
     (omega arith, settled-more _ _ _ (c .before .before .before .loop .inv .1) (sym (c .before .settled .ensures) ∙ c .if1 .taken))
 
 returns : tie.Need-returns Inv-loop μ-loop
-returns c =
-    (c .before .before .before .loop .k,
-    record {
-      first = c .before .before .before .loop .inv .0;
-      last = c .before .before .loop-test .taken;
-      not-so = sym (c .before .settled .ensures) ∙ c .if1 .left;
-    })
+returns c = (
+  c .before .before .before .loop .k,
+  record {
+    first = c .before .before .before .loop .inv .0;
+    last = omega arith;
+    not-so = sym (c .before .settled .ensures) ∙ c .if1 .left;
+  },
+)
 
 returns-2 : tie.Need-returns-2 Inv-loop μ-loop
 returns-2 c = λ j p q. c .before .loop .inv .1 j p (omega arith)
