@@ -1,7 +1,7 @@
 -- What an open gate of a call tells that wants a sound table. Assumes nothing.
 use Prim.Native.Nat.{ℕ}
 use mathlib.Core.Path.{_≡_, sym, _∙_}
-use mathlib.Core.Bool.{Bool}
+use mathlib.Core.Bool.{Bool, true}
 use mathlib.Core.List.{List}
 use Rattle.scope.specs.Sound.{soundTable}
 use Rattle.scope.specs.Sums.{soundGate}
@@ -16,3 +16,7 @@ pub opened : (t : List ℕ) (good : Bool) (c : ℕ) {g : Gate} → g ≡ soundGa
 opened t good c e o =
     let p = gate-passed t good (λ n. soundTable t n) c (sym e ∙ o) in
     record { sized = p .sized; sound = sound-says t c (p .whole-is) }
+
+-- and the arguments were in range
+pub asked : (t : List ℕ) (good : Bool) (c : ℕ) {g : Gate} → g ≡ soundGate t good → g ≡ Open c → good ≡ true
+asked t good c e o = gate-passed t good (λ n. soundTable t n) c (sym e ∙ o) .good-is
