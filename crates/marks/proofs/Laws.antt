@@ -1,7 +1,7 @@
 -- What a mark is, and what is there before the first one. Assumes nothing.
 use Prim.Native.Nat.{ℕ, _+_, _/_, _%_, _^_, _<_}
 use mathlib.Core.Path.{_≡_, ap, _∙_}
-use mathlib.Core.Bool.{Bool, true, false, cond}
+use mathlib.Core.Bool.{false}
 use mathlib.Core.List.{List}
 use native.Mathlib.Nat.{zero-div}
 use native.Mathlib.Omega.{arith}

@@ -1,25 +1,25 @@
 -- How the check ends: what the scan and the pass after it find is what the definition says. Assumes nothing.
 use Prim.Native.Nat.{ℕ, _+_, _≤_, _<_}
 use mathlib.Core.Path.{_≡_, refl, sym, ap, _∙_}
-use mathlib.Core.Bool.{Bool, true, false, cond, not, _&&_, _||_}
+use mathlib.Core.Bool.{Bool, true, false, _&&_}
 use mathlib.Core.List.{List}
 use native.Mathlib.Decide.{decLe}
 use native.Mathlib.Omega.{arith}
 use lib.Dec.{eqb}
-use borrow.Author.Tests.{eq-eqb, ne-eqb, eqb-true, eqb-false, not-true}
+use borrow.Author.Tests.{ne-eqb, eqb-true, eqb-false, not-true}
 use Rattle.scope.proofs.Bools.{and-l, and-r, by-bool, neither}
 use Rattle.scope.specs.Table.{word, rootWord, countWord, slotAt, base}
 use Rattle.scope.specs.Fit.{stateOk, fitSlot, headerOk, blankSlot}
 use Rattle.scope.specs.Tree.{Batch, Tree, leaf, node, size, same, times, Above, Below}
-use Rattle.scope.specs.Sound.{Spells, batchAt, Top, soundTable, Sound}
+use Rattle.scope.specs.Sound.{Spells, soundTable, Sound}
 use Rattle.scope.specs.declared.slot.Slot.{Slot}
 use Rattle.words.proofs.Laws.{header-root, fit-left, fit-right}
 use Rattle.marks.specs.Marks.{bitAt}
 use Rattle.marks.proofs.Laws.{bit-small}
-use Rattle.sound.specs.Scan.{Fine, Good, settledAt, Unsettled, RestIs}
+use Rattle.sound.specs.Scan.{Fine, Good, settledAt, RestIs}
 use Rattle.sound.proofs.Order.{bounded, between}
 use Rattle.sound.proofs.Spell.{unique}
-use Rattle.sound.proofs.Exact.{sound-test, sound-says, unsound}
+use Rattle.sound.proofs.Exact.{sound-test, unsound}
 
 -- one slot more is settled
 pub settled-more : (t m : List ℕ) (k : ℕ) → ((j : ℕ) → 1 ≤ j → j < k → settledAt t m j ≡ true) → settledAt t m k ≡ true

@@ -1,7 +1,7 @@
 -- The test of soundness passes exactly where the statement holds. Assumes nothing.
 use Prim.Native.Nat.{ℕ, zero, suc, _≤_}
-use mathlib.Core.Path.{_≡_, refl, subst}
-use mathlib.Core.Bool.{Bool, true, false, _&&_, _||_}
+use mathlib.Core.Path.{_≡_, refl}
+use mathlib.Core.Bool.{true, false, _&&_}
 use mathlib.Core.Option.{Option, none, some}
 use mathlib.Core.List.{List}
 use native.Mathlib.Decide.{decLe}
@@ -11,7 +11,7 @@ use borrow.Author.Tests.{eq-eqb, eqb-true, eqb-false}
 use Rattle.scope.proofs.Bools.{and-l, and-r, by-bool, neither}
 use Rattle.scope.specs.Table.{word, rootWord, countWord, slotAt}
 use Rattle.scope.specs.Fit.{headerOk, blankSlot}
-use Rattle.scope.specs.Tree.{Tree, size, times, ordered, Ordered}
+use Rattle.scope.specs.Tree.{Tree, size, times, ordered}
 use Rattle.scope.specs.Sound.{rootTree, slotOk, slotsOk, soundTree, soundTable, Sound}
 use Rattle.sound.proofs.Order.{both, ordered-says, ordered-test}
 use Rattle.sound.proofs.Spell.{tree-spells, root-tree}

@@ -1,19 +1,16 @@
 -- What a write leaves: a tree stays where the words of its slots stay. Assumes nothing.
 use Prim.Native.Nat.{ℕ, _+_, _≤_, _<_}
-use mathlib.Core.Path.{_≡_, refl, sym, ap, _∙_}
-use mathlib.Core.Bool.{cond}
+use mathlib.Core.Path.{_≡_, refl, ap}
 use mathlib.Core.List.{List, [], _∷_}
 use native.Mathlib.Decide.{decLe}
 use native.Mathlib.Nat.{add-zero}
 use native.Mathlib.Omega.{arith}
 use lib.ListN.{set}
 use lib.Seq.{getD-set-other}
-use lib.Dec.{eqb}
 use borrow.Author.Tests.{ne-eqb}
 use Rattle.scope.specs.Table.{word, base, slotAt, withSlot, Write, put, written}
-use Rattle.scope.specs.Fit.{fitSlot}
-use Rattle.scope.specs.Tree.{Batch, Tree, leaf, node, same, times}
-use Rattle.scope.specs.Sound.{Spells, batchAt, Top}
+use Rattle.scope.specs.Tree.{Tree, leaf, node, same, times}
+use Rattle.scope.specs.Sound.{Spells}
 use Rattle.scope.specs.declared.slot.Slot.{Slot}
 use Rattle.sound.proofs.Steps.{same-self}
 

@@ -1,12 +1,12 @@
 -- Keys in order: as a test, as a statement, and by bounds. Assumes nothing.
-use Prim.Native.Nat.{ℕ, _≤_, _<_}
+use Prim.Native.Nat.{ℕ, _≤_}
 use mathlib.Core.Path.{_≡_, refl}
 use mathlib.Core.Bool.{Bool, true, false, _&&_}
 use native.Mathlib.Omega.{arith}
 use lib.Dec.{ltb}
 use borrow.Author.Tests.{ltb-true, lt-ltb}
 use Rattle.scope.proofs.Bools.{and-l, and-r}
-use Rattle.scope.specs.Tree.{Batch, Tree, leaf, node, below, above, ordered, Below, Above, Ordered}
+use Rattle.scope.specs.Tree.{Tree, leaf, node, below, above, ordered, Below, Above, Ordered}
 use Rattle.sound.specs.Scan.{Between}
 
 -- two tests that pass

@@ -1,18 +1,17 @@
 -- Words spell one tree, and it is the tree that the definition computes. Assumes nothing.
 use Prim.Native.Nat.{ℕ, zero, suc, _≤_}
 use mathlib.Core.Path.{_≡_, refl, sym, _∙_, subst}
-use mathlib.Core.Bool.{true, false}
+use mathlib.Core.Bool.{true}
 use mathlib.Core.Option.{Option, none, some}
 use mathlib.Core.List.{List}
 use native.Mathlib.Omega.{arith}
 use lib.Dec.{eqb}
 use borrow.Author.Tests.{ne-eqb, eqb-true, eqb-false}
 use Rattle.scope.proofs.Bools.{by-bool}
-use Rattle.scope.specs.Table.{word, rootWord, countWord, slotAt}
-use Rattle.scope.specs.Fit.{fitSlot, headerOk}
-use Rattle.scope.specs.Tree.{Batch, Tree, leaf, node, size}
-use Rattle.scope.specs.Sound.{Spells, batchAt, Top, treeOf, join, rootTree, treeIn, orLeaf, Sound}
-use Rattle.scope.specs.declared.slot.Slot.{Slot}
+use Rattle.scope.specs.Table.{word, rootWord, slotAt}
+use Rattle.scope.specs.Fit.{fitSlot}
+use Rattle.scope.specs.Tree.{Tree, leaf, node, size}
+use Rattle.scope.specs.Sound.{Spells, batchAt, treeOf, join, rootTree, treeIn, Sound}
 use Rattle.words.proofs.Laws.{header-count}
 
 -- two trees at one link are the same

@@ -10,7 +10,7 @@ use Rattle.scope.proofs.Bools.{and-l, and-r, neither}
 use Rattle.scope.specs.Table.{slotAt}
 use Rattle.scope.specs.Fit.{fitSlot}
 use Rattle.scope.specs.Tree.{Batch, Tree, leaf, node, size, same, times}
-use Rattle.scope.specs.Sound.{Spells, batchAt, Top}
+use Rattle.scope.specs.Sound.{Spells, batchAt}
 use Rattle.scope.specs.declared.slot.Slot.{Slot}
 use Rattle.scope.specs.declared.outcome.Scan.{Scan}
 use Rattle.scope.specs.declared.outcome.Scan.the-variants.{Damaged, Left}

@@ -8,7 +8,7 @@ use lib.ListN.{replicate, getD-replicate}
 use borrow.Author.Tests.{le-leb}
 use Rattle.scope.specs.Table.{word, base, slotAt}
 use Rattle.scope.specs.Fit.{headerOk, blankSlot}
-use Rattle.scope.specs.Tree.{Tree, leaf, size, times, Ordered}
+use Rattle.scope.specs.Tree.{leaf, size, times, Ordered}
 use Rattle.scope.specs.Sound.{Spells, soundTable, Sound}
 use Rattle.sound.proofs.Exact.{sound-test}
 

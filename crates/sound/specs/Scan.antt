@@ -7,7 +7,7 @@ use lib.ListN.{length}
 use lib.Dec.{eqb, ltb}
 use Rattle.scope.specs.Table.{slotAt}
 use Rattle.scope.specs.Fit.{fitSlot, blankSlot}
-use Rattle.scope.specs.Tree.{Batch, Tree, leaf, node, size, times}
+use Rattle.scope.specs.Tree.{Tree, leaf, node, size, times}
 use Rattle.scope.specs.Sound.{Spells}
 use Rattle.scope.specs.declared.slot.Slot.{Slot}
 use Rattle.scope.specs.declared.outcome.Visit.{Visit}

@@ -1,15 +1,13 @@
 -- One step down a hanging tree, for every walk of both sides; and the tree at the root. Assumes nothing.
-use Prim.Native.Nat.{ℕ, suc, _+_, _-_, _≤_, _<_}
+use Prim.Native.Nat.{ℕ, _+_, _-_, _≤_, _<_}
 use mathlib.Core.Path.{_≡_, refl, sym, ap, _∙_}
 use mathlib.Core.Bool.{true}
 use mathlib.Core.List.{List}
 use native.Mathlib.Omega.{arith}
 use Rattle.scope.specs.Table.{word, rootWord, countWord, slotAt, InTable}
 use Rattle.scope.specs.Fit.{fitSlot}
-use Rattle.scope.specs.Tree.{Batch, Tree, leaf, node, size}
-use Rattle.scope.specs.Sound.{Spells, batchAt, Top, treeIn, Sound}
-use Rattle.scope.specs.declared.slot.Slot.{Slot}
-use Rattle.words.specs.Ready.{Sized}
+use Rattle.scope.specs.Tree.{Tree, leaf, node, size}
+use Rattle.scope.specs.Sound.{Spells, batchAt, treeIn}
 use Rattle.words.proofs.Laws.{in-table, fit-left, fit-right, header-root, header-count}
 use Rattle.sound.specs.Whole.{Whole}
 use Rattle.sound.proofs.Spell.{unique, tree-in}

@@ -3,14 +3,13 @@ use Prim.Native.Nat.{ℕ, _+_, _-_, _≤_, _<_}
 use mathlib.Core.Path.{_≡_, sym, ap, _∙_}
 use mathlib.Core.List.{List, [], _∷_, _++_}
 use native.Mathlib.Omega.{arith}
-use Rattle.scope.specs.Tree.{Tree, leaf, inOrder, size}
+use Rattle.scope.specs.Tree.{inOrder}
 use Rattle.scope.specs.Sound.{batchAt}
 use Rattle.scope.specs.Sums.{slotsInOrder, pick, rankOf}
-use Rattle.scope.specs.declared.slot.Slot.{Slot}
 use Rattle.scope.specs.declared.outcome.Rank.{Rank}
 use Rattle.scope.specs.declared.outcome.Rank.the-variants.{At, Past}
 use Rattle.sums.specs.declared.Fork.{Fork}
-use Rattle.sums.specs.Hangs.{Hangs, Says, after, Few}
+use Rattle.sums.specs.Hangs.{Says, after, Few}
 use Rattle.sums.proofs.Down.{Forked, said-at, says-leaf, says-fork}
 use Rattle.sums.proofs.Pick.{order-node, order-size, pick-past, past-is, pick-few, pick-left, pick-here, pick-after}
 

@@ -1,6 +1,6 @@
 -- What each sum is at a slot, from those of its two sides; and how large it can be. Assumes nothing.
 use Prim.Native.Nat.{ℕ, _+_, _*_, _≤_, _<_}
-use mathlib.Core.Path.{_≡_, refl, ap, _∙_}
+use mathlib.Core.Path.{_≡_, ap}
 use mathlib.Core.Bool.{Bool, true, false, not, cond, _&&_}
 use mathlib.Core.List.{List}
 use native.Mathlib.Omega.{arith}
@@ -9,12 +9,12 @@ use borrow.Author.Tests.{leb-true}
 use Rattle.scope.proofs.Bools.{and-l, and-r}
 use Rattle.scope.specs.Table.{slotAt}
 use Rattle.scope.specs.Fit.{stateOk, piecesOk, fitSlot}
-use Rattle.scope.specs.Tree.{Batch, Tree, leaf, node, size, trueHeight, over}
-use Rattle.scope.specs.Sound.{Spells, batchAt, Top}
+use Rattle.scope.specs.Tree.{Tree, leaf, node, size, trueHeight, over}
+use Rattle.scope.specs.Sound.{Spells}
 use Rattle.scope.specs.Sums.{totalOf}
 use Rattle.scope.specs.declared.slot.Slot.{Slot}
 use Rattle.sums.specs.declared.Fork.{Fork}
-use Rattle.sums.specs.Hangs.{Hangs, Says, forkAt, counted}
+use Rattle.sums.specs.Hangs.{Says, counted}
 use Rattle.sums.proofs.Down.{Forked, said-at, says-fork}
 
 pub height-most : (T : Tree) → trueHeight T ≤ size T

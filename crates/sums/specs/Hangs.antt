@@ -1,12 +1,15 @@
 -- A tree that hangs at a link, and what a walk of it says. Assumes nothing: these are statements.
 use Prim.Native.Nat.{ℕ, _+_, _≤_}
 use mathlib.Core.Path.{_≡_}
-use mathlib.Core.Bool.{cond}
+use mathlib.Core.Bool.{true, cond}
 use mathlib.Core.List.{List}
 use lib.Dec.{leb}
-use Rattle.scope.specs.Table.{slotAt}
-use Rattle.scope.specs.Tree.{Tree, size}
-use Rattle.scope.specs.Sound.{Spells}
+use Rattle.scope.specs.Table.{word, changeWord, slotAt}
+use Rattle.scope.specs.Tree.{Tree, size, trueHeight}
+use Rattle.scope.specs.Sound.{Spells, treeIn}
+use Rattle.scope.specs.Answers.{accepted, answering}
+use Rattle.scope.specs.Sums.{soundGate}
+use Rattle.scope.specs.declared.answer.Answer.{Answer}
 use Rattle.scope.specs.declared.slot.Slot.{Slot}
 use Rattle.scope.specs.declared.outcome.Rank.{Rank}
 use Rattle.scope.specs.declared.outcome.Rank.the-variants.{At, Past}
@@ -30,6 +33,11 @@ Says t x f r = (c : ℕ) (T : Tree) → Spells t c x T → r ≡ f T
 -- a slot with its two sons
 abbrev pub forkAt : List ℕ → ℕ → Fork
 forkAt t x = record { slot = slotAt t x; left = slotAt t x .left; right = slotAt t x .right }
+
+-- the true height of a sound table, answered as the calls of document 01 answer
+unfoldable pub heightAnswer : List ℕ → Answer
+heightAnswer t =
+    answering (soundGate t true) (λ c. accepted (word t changeWord) (trueHeight (treeIn t c)) 0 0)
 
 -- the pieces of a record whose key is at most K, else 0
 unfoldable pub counted : ℕ → Slot → ℕ

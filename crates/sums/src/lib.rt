@@ -12,7 +12,7 @@ ghost use Rattle.scope.specs.Sound.{treeIn};
 ghost use Rattle.scope.specs.Sums.{rankOf, ranked, rankAnswer, totalOf, totalAnswer};
 ghost use Rattle.words.specs.Ready.{Headed};
 ghost use Rattle.sound.specs.Whole.{Whole};
-ghost use Rattle.sums.specs.Hangs.{Hangs, Says, forkAt, counted, after, Few};
+ghost use Rattle.sums.specs.Hangs.{Hangs, Says, forkAt, heightAnswer, counted, after, Few};
 
 // A slot with its two sons.
 pub struct Fork {
@@ -54,12 +54,25 @@ pub fn height_under(t: &[u32], more: usize, x: usize) -> usize
     over(a, b)
 }
 
-// The true height of a sound table.
-pub fn height(t: &[u32], c: usize) -> usize
+// The same over a sound table.
+pub fn height_in(t: &[u32], c: usize) -> usize
     requires { ⌜ Whole (now t) c ⌝ }
     ensures { λ r. ⌜ r ≡ trueHeight (treeIn (now (t .entry)) c) ⌝ }
 {
     height_under(t, words::records(t), words::root(t))
+}
+
+// The true height, answered like a call of document 01, though none asks for it.
+pub fn height(t: &[u32]) -> Answer
+    ensures { λ r. ⌜ r ≡ heightAnswer (now (t .entry)) ⌝ }
+{
+    match sound::enter_sound(t, true) {
+        Gate::Shut(why) => words::refuse(why),
+        Gate::Open(c) => {
+            let value = words::size(height_in(t, c));
+            words::accept(words::long(words::change(t)), value, 0, 0)
+        }
+    }
 }
 
 // The pieces of a record, where its key counts.

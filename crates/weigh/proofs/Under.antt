@@ -1,11 +1,10 @@
 -- The weight at a slot from those of its two sides, and of the whole table. Assumes nothing.
-use Prim.Native.Nat.{ℕ, suc, _+_, _-_, _≤_, _<_}
-use mathlib.Core.Path.{_≡_, refl, sym, ap, _∙_}
+use Prim.Native.Nat.{ℕ, _+_, _-_, _≤_, _<_}
+use mathlib.Core.Path.{_≡_, ap, _∙_}
 use mathlib.Core.List.{List}
-use native.Mathlib.Numerals.{add-one}
 use native.Mathlib.Omega.{arith}
-use Rattle.scope.specs.Table.{word, rootWord, countWord, slotAt}
-use Rattle.scope.specs.Tree.{Batch, Tree, leaf, node, size, over}
+use Rattle.scope.specs.Table.{word, rootWord, countWord}
+use Rattle.scope.specs.Tree.{Batch, Tree, node, size, over}
 use Rattle.scope.specs.Sound.{batchAt, treeIn}
 use Rattle.scope.specs.Worth.{worthOf}
 use Rattle.scope.specs.declared.slot.Slot.{Slot}
@@ -13,10 +12,10 @@ use Rattle.words.proofs.Laws.{fit-left, fit-right}
 use Rattle.sound.specs.Whole.{Whole}
 use Rattle.sound.proofs.Spell.{tree-in}
 use Rattle.sums.specs.declared.Fork.{Fork}
-use Rattle.sums.specs.Hangs.{Hangs, Says, forkAt}
-use Rattle.sums.proofs.Down.{Forked, forked, said-at, says-leaf, says-fork, said}
+use Rattle.sums.specs.Hangs.{Says}
+use Rattle.sums.proofs.Down.{Forked, said-at, says-leaf, says-fork, said}
 use Rattle.weigh.specs.declared.Weighed.{Weighed}
-use Rattle.weigh.specs.Weight.{weightOf, ownWeight, weighed, joined, topOf, Light, Laden, Bearable}
+use Rattle.weigh.specs.Weight.{weightOf, weighed, joined, topOf, Laden, Bearable}
 use Rattle.weigh.proofs.Weight.{weight-leaf, weight-node, weight-most, weight-worth}
 
 -- nothing weighs nothing
@@ -69,9 +68,14 @@ module _ {t : List ℕ} {more x : ℕ} {f : Fork} (d : Forked t more x f) where
             light = record { left = registers .0; right = registers .1; outside = w .most; over-it = w .over-it };
             few = omega (arith, left-is .0, right-is .0);
             sum =
-                omega (arith, left-is .1, right-is .1, w .most,
-                weight-most t (l .slots) (f .left) n g (l .tree) (l .reached) (w .most) (omega (arith, registers .0)),
-                weight-most t (r .slots) (f .right) n h (r .tree) (r .reached) (w .most) (omega (arith, registers .1)));
+                omega (
+                  arith,
+                  left-is .1,
+                  right-is .1,
+                  w .most,
+                  weight-most t (l .slots) (f .left) n g (l .tree) (l .reached) (w .most) (omega (arith, registers .0)),
+                  weight-most t (r .slots) (f .right) n h (r .tree) (r .reached) (w .most) (omega (arith, registers .1)),
+                );
           }
 
       pub weigh-here : {r : Weighed} → r ≡ joined (f .slot) n above a b → Says t x (weighed n above) r

@@ -1,15 +1,13 @@
 -- The weight of a tree from those of its sides, how large it can be, and that at the root it is the worth. Assumes nothing.
-use Prim.Native.Nat.{ℕ, suc, _+_, _-_, _*_, _≤_, _<_, max}
-use mathlib.Core.Path.{_≡_, refl, sym, ap, _∙_}
-use mathlib.Core.Bool.{true}
+use Prim.Native.Nat.{ℕ, _+_, _-_, _*_, _≤_}
+use mathlib.Core.Path.{_≡_, refl, ap, _∙_}
 use mathlib.Core.List.{List}
 use native.Mathlib.Nat.{mul-le-mul-left, mul-zero, sub-eq-zero-of-le}
-use native.Mathlib.Numerals.{add-one}
 use native.Mathlib.Omega.{arith}
 use Rattle.scope.specs.Table.{slotAt}
 use Rattle.scope.specs.Tree.{Batch, Tree, leaf, node, size, over}
 use Rattle.scope.specs.Worth.{gap, negOf, posOf, NEG, POS, BAL, RBAL, worthOf}
-use Rattle.scope.specs.Sound.{Spells, batchAt, Top}
+use Rattle.scope.specs.Sound.{Spells}
 use Rattle.scope.specs.declared.slot.Slot.{Slot}
 use Rattle.words.proofs.Laws.{fit-left, fit-right}
 use Rattle.weigh.specs.Weight.{weightOf, ownWeight, topOf}
@@ -57,8 +55,13 @@ weight-most t c x n above leaf p h g = omega (arith, weight-leaf n above)
 weight-most t c x n above (node d a b l r) p h g =
     let ea : a ≤ 65535 = omega (arith, p .lefth, fit-left c (slotAt t x) (p .fit)) in
     let eb : b ≤ 65535 = omega (arith, p .righth, fit-right c (slotAt t x) (p .fit)) in
-    omega (arith, weight-node n above d a b l r, own-most a b (n - size (node d a b l r)) above ea eb (omega arith) g,
-    weight-most t c (slotAt t x .left) n a l (p .left) h (omega arith), weight-most t c (slotAt t x .right) n b r (p .right) h (omega arith))
+    omega (
+      arith,
+      weight-node n above d a b l r,
+      own-most a b (n - size (node d a b l r)) above ea eb (omega arith) g,
+      weight-most t c (slotAt t x .left) n a l (p .left) h (omega arith),
+      weight-most t c (slotAt t x .right) n b r (p .right) h (omega arith),
+    )
 
 no-carry : (X Y N P B R : ℕ) → X ≡ 0 → Y ≡ 0 → 6 * ((X + N) + (Y + P)) + 2 * B + R ≡ 6 * (N + P) + 2 * B + R
 no-carry X Y N P B R x y = omega arith

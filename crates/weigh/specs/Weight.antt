@@ -1,7 +1,7 @@
 -- What a tree weighs with n nodes in all and a register above it. Assumes nothing: these are definitions and statements.
 use Prim.Native.Nat.{ℕ, _+_, _-_, _*_, _≤_, _<_}
 use mathlib.Core.List.{List}
-use Rattle.scope.specs.Tree.{Batch, Tree, leaf, node, size, over}
+use Rattle.scope.specs.Tree.{Tree, leaf, node, size, over}
 use Rattle.scope.specs.Worth.{gap, negOf, posOf, NEG, POS, BAL, RBAL}
 use Rattle.scope.specs.declared.slot.Slot.{Slot}
 use Rattle.sums.specs.Hangs.{Hangs}

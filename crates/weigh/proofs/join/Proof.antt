@@ -1,4 +1,3 @@
-
 use borrow.Author.Needs.{needs}
 use Rattle.weigh.proofs.join.Statement.{statement}
 use Rattle.weigh.proofs.join.Tie as tie
