@@ -18,6 +18,13 @@ pub rank-leaf : (t : List ℕ) (x r : ℕ) → 1 ≤ r → x ≡ 0 → Says t x 
 unfolding rankOf inOrder
 rank-leaf t x r pos e c T p = sym (pick-past r [] pos) ∙ says-leaf t x (rankOf r) e c T p
 
+-- on the right side there are few slots
+pub right-few : {t : List ℕ} {more x : ℕ} {f : Fork} (d : Forked t more x f) (r : ℕ) {b : Rank} → Says t (f .right) (rankOf r) b → Few b
+unfolding rankOf
+right-few d r sb =
+    rw (said-at (d .on-right) (rankOf r) sb)
+    (pick-few r (slotsInOrder (d .on-right .tree)) (omega (arith, order-size (d .on-right .tree), d .few, d .most)))
+
 module _ {t : List ℕ} {more x : ℕ} {f : Fork} (d : Forked t more x f) {r : ℕ} (pos : 1 ≤ r) where
   abbrev L : List ℕ
   L = slotsInOrder (d .on-left .tree)
@@ -49,9 +56,6 @@ module _ {t : List ℕ} {more x : ℕ} {f : Fork} (d : Forked t more x f) {r : �
         on-right : b ≡ pick (r - (n + 1)) R
         unfolding rankOf
         on-right = said-at (d .on-right) (rankOf (r - (n + 1))) sb
-
-        pub right-few : Few b
-        right-few = rw on-right (pick-few (r - (n + 1)) R (omega (arith, order-size (d .on-right .tree), d .few, d .most)))
 
         pub rank-after : (n + 1 ≡ r → ⊥) → {q : Rank} → q ≡ after (n + 1) b → Says t x (rankOf r) q
         rank-after ne eq = rank-node (pick-after r L x R pos n (sym on-left ∙ e) ne ∙ ap (after (n + 1)) (sym on-right) ∙ sym eq)

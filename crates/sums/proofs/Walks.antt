@@ -65,7 +65,7 @@ module _ {t : List ℕ} {more x : ℕ} {f : Fork} (d : Forked t more x f) where
 
   module _ (K : ℕ) {a b own : ℕ} (sa : Says t (f .left) (totalOf K) a) (sb : Says t (f .right) (totalOf K) b)
       (eo : own ≡ counted K (f .slot)) where
-    pub total-few : a + b + own < 10000000000000
+    pub total-few : (a ≤ 4095000000) × (b ≤ 4095000000) × (own ≤ 1000000)
     total-few =
         let l = d .on-left in
         let r = d .on-right in

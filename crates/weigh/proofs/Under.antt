@@ -12,7 +12,7 @@ use Rattle.words.proofs.Laws.{fit-left, fit-right}
 use Rattle.sound.specs.Whole.{Whole}
 use Rattle.sound.proofs.Spell.{tree-in}
 use Rattle.sums.specs.declared.Fork.{Fork}
-use Rattle.sums.specs.Hangs.{Says}
+use Rattle.sums.specs.Hangs.{Hangs, Says}
 use Rattle.sums.proofs.Down.{Forked, said-at, says-leaf, says-fork, said}
 use Rattle.weigh.specs.declared.Weighed.{Weighed}
 use Rattle.weigh.specs.Weight.{weightOf, weighed, joined, topOf, Laden, Bearable}
@@ -24,6 +24,12 @@ unfolding weighed size
 weigh-leaf t x n above e c T p =
     let z = weight-leaf n above in
     cc (says-leaf t x (weighed n above) e c T p)
+
+-- what a walk said, part by part
+weighed-is : {t : List ℕ} {more x : ℕ} (k : Hangs t more x) (n g : ℕ) {a : Weighed} → Says t x (weighed n g) a
+    → (a .size ≡ size (k .tree)) × (a .weight ≡ weightOf n g (k .tree))
+unfolding weighed
+weighed-is k n g s = let e = said-at k (weighed n g) s in (cc, cc)
 
 -- what the code joins is the weight of the node
 joined-is : (s : Slot) (n above : ℕ) (a b : Weighed) (d : Batch) (L R : Tree) → a .size ≡ size L → b .size ≡ size R
@@ -46,44 +52,34 @@ module _ {t : List ℕ} {more x : ℕ} {f : Fork} (d : Forked t more x f) where
 
   module _ {n above : ℕ} (w : Bearable more n above) where
     -- each side can be borne too
-    pub bears : {g h : ℕ} → h ≤ 65535 → g ≡ h → Bearable (more - 1) n g
-    bears p e = record { few = omega (arith, w .few); most = w .most; over-it = omega arith }
+    pub bears : {g : ℕ} → g ≤ 65536 → Bearable (more - 1) n g
+    bears p = record { few = omega (arith, w .few); most = w .most; over-it = omega arith }
 
-    module _ {g h : ℕ} {a b : Weighed} (eg : g ≡ f .slot .lefth) (eh : h ≡ f .slot .righth)
-        (sa : Says t (f .left) (weighed n g) a) (sb : Says t (f .right) (weighed n h) b) where
-      left-is : (a .size ≡ size (d .on-left .tree)) × (a .weight ≡ weightOf n g (d .on-left .tree))
-      unfolding weighed
-      left-is = let e = said-at (d .on-left) (weighed n g) sa in (cc, cc)
-
-      right-is : (b .size ≡ size (d .on-right .tree)) × (b .weight ≡ weightOf n h (d .on-right .tree))
-      unfolding weighed
-      right-is = let e = said-at (d .on-right) (weighed n h) sb in (cc, cc)
-
-      pub laden : Laden (f .slot) n above a b
-      laden =
+    module _ {g h : ℕ} {a b : Weighed} (sa : Says t (f .left) (weighed n g) a) (sb : Says t (f .right) (weighed n h) b) where
+      pub laden : g ≤ 65536 → h ≤ 65536 → Laden (f .slot) n above a b
+      laden pg ph =
           let l = d .on-left in
           let r = d .on-right in
           let few : size (l .tree) + size (r .tree) < n = omega (arith, d .few, w .few) in
           record {
             light = record { left = registers .0; right = registers .1; outside = w .most; over-it = w .over-it };
-            few = omega (arith, left-is .0, right-is .0);
-            sum =
-                omega (
-                  arith,
-                  left-is .1,
-                  right-is .1,
-                  w .most,
-                  weight-most t (l .slots) (f .left) n g (l .tree) (l .reached) (w .most) (omega (arith, registers .0)),
-                  weight-most t (r .slots) (f .right) n h (r .tree) (r .reached) (w .most) (omega (arith, registers .1)),
-                );
+            few = omega (arith, weighed-is (d .on-left) n g sa .0, weighed-is (d .on-right) n h sb .0);
+            sum = omega (
+              arith,
+              weighed-is (d .on-left) n g sa .1,
+              weighed-is (d .on-right) n h sb .1,
+              w .most,
+              weight-most t (l .slots) (f .left) n g (l .tree) (l .reached) (w .most) pg,
+              weight-most t (r .slots) (f .right) n h (r .tree) (r .reached) (w .most) ph,
+            );
           }
 
-      pub weigh-here : {r : Weighed} → r ≡ joined (f .slot) n above a b → Says t x (weighed n above) r
-      unfolding weighed
-      weigh-here e =
+      pub weigh-here : g ≡ f .slot .lefth → h ≡ f .slot .righth → {r : Weighed} → r ≡ joined (f .slot) n above a b
+          → Says t x (weighed n above) r
+      weigh-here eg eh e =
           says-fork (weighed n above) d
-          (e ∙ joined-is (f .slot) n above a b (batchAt t x) (d .on-left .tree) (d .on-right .tree) (left-is .0) (right-is .0)
-          (cc (eg, left-is .1)) (cc (eh, right-is .1)))
+          (e ∙ joined-is (f .slot) n above a b (batchAt t x) (d .on-left .tree) (d .on-right .tree) (weighed-is (d .on-left) n g sa .0) (weighed-is (d .on-right) n h sb .0)
+          (cc (eg, weighed-is (d .on-left) n g sa .1)) (cc (eh, weighed-is (d .on-right) n h sb .1)))
 
 -- the whole table
 module _ {t : List ℕ} {c x : ℕ} (w : Whole t c) (ex : x ≡ word t rootWord) where

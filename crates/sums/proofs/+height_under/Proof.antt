@@ -1,6 +1,6 @@
 use native.Mathlib.Omega.{arith}
 use Rattle.scope.specs.Tree.{trueHeight}
-use Rattle.sums.proofs.Down.{in-reach, forked, says-leaf}
+use Rattle.sums.proofs.Down.{Forked, in-reach, forked, says-leaf}
 use Rattle.sums.proofs.Walks.{heights-few, height-here}
 use Prim.Native.Nat.{ℕ, _<_}
 use borrow.Fn.Kinds.{In}
@@ -29,6 +29,18 @@ height-under-below t =
     (falls 1 height-under-kinds.ps _<_ μ-height-under t)
     height-under.Pre
 
+-- the slot that is entered, with what hangs below it
+sides : (t : ℕ) (c : height-under-lts.After-fork-at (
+  fork-at-reads.Asked,
+  fork-at-reads.Learnt,
+  height-under-below t,
+  height-under.Post,
+  over-reads.Asked,
+  over-reads.Learnt,
+) (height-under-at t) height-under.Post)
+    → Forked (c .before .before .before .args .t .now) (c .before .before .before .args .more) (c .before .before .before .args .x) (c .fork-at .result)
+sides t c = forked (c .before .before .before .pre .1) (c .before .if1 .left) (c .fork-at .ensures)
+
 pub +height-under-spec : {M : Type 1} → statement M
 unfolding trueHeight
 +height-under-spec = close μ-height-under λ t. height-under-lts.spec (
@@ -46,12 +58,12 @@ unfolding trueHeight
     -- fork-at-requires
     (λ c κs. in-reach (c .before .before .pre .1) (c .if1 .left))
     -- sub-less
-    (λ c. forked (c .before .before .before .pre .1) (c .before .if1 .left) (c .fork-at .ensures) .some)
+    (λ c. sides t c .some)
     -- height-under-requires
-    (λ c κs. let d = forked (c .before .before .before .pre .1) (c .before .if1 .left) (c .fork-at .ensures) in (omega (arith, c .before .before .before .pre .0, d .some), d .on-left))
+    (λ c κs. (omega (arith, c .before .before .before .pre .0, sides t c .some), sides t c .on-left))
     -- height-under-requires-2
-    (λ c κs. let d = forked (c .before .before .before .before .pre .1) (c .before .before .if1 .left) (c .before .fork-at .ensures) in (omega (arith, c .before .before .before .before .pre .0, d .some), d .on-right))
+    (λ c κs. (omega (arith, c .before .before .before .before .pre .0, sides t (c .before) .some), sides t (c .before) .on-right))
     -- over-requires
-    (λ c κs. heights-few (forked (c .before .before .before .before .before .pre .1) (c .before .before .before .if1 .left) (c .before .before .fork-at .ensures)) (c .before .height-under .ensures) (c .height-under2 .ensures))
+    (λ c κs. omega (arith, heights-few (sides t (c .before .before)) (c .before .height-under .ensures) (c .height-under2 .ensures)))
     -- returns-2
-    (λ c. height-here (forked (c .before .before .before .before .before .before .pre .1) (c .before .before .before .before .if1 .left) (c .before .before .before .fork-at .ensures)) (c .before .before .height-under .ensures) (c .before .height-under2 .ensures) (c .over .ensures))
+    (λ c. height-here (sides t (c .before .before .before)) (c .before .before .height-under .ensures) (c .before .height-under2 .ensures) (c .over .ensures))

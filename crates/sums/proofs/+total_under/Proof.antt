@@ -1,7 +1,7 @@
 use native.Mathlib.Omega.{arith}
 use borrow.Author.Needs.{needs}
 use Rattle.scope.specs.Sums.{totalOf}
-use Rattle.sums.proofs.Down.{in-reach, forked, says-leaf}
+use Rattle.sums.proofs.Down.{Forked, in-reach, forked, says-leaf}
 use Rattle.sums.proofs.Walks.{total-few, total-here}
 use Prim.Native.Nat.{ℕ, _<_}
 use borrow.Fn.Kinds.{In}
@@ -27,6 +27,20 @@ abbrev total-under-below : ℕ → In 1 total-under-kinds.ps
 total-under-below t =
     and 1 total-under-kinds.ps (falls 1 total-under-kinds.ps _<_ μ-total-under t) total-under.Pre
 
+-- the slot that is entered, with what hangs below it
+sides : (t : ℕ) (c : total-under-lts.After-fork-at (
+  fork-at-reads.Asked,
+  fork-at-reads.Learnt,
+  counted-reads.Asked,
+  counted-reads.Learnt,
+  total-under-below t,
+  total-under.Post,
+  add3-reads.Asked,
+  add3-reads.Learnt,
+) (total-under-at t) total-under.Post)
+    → Forked (c .before .before .before .args .t .now) (c .before .before .before .args .more) (c .before .before .before .args .x) (c .fork-at .result)
+sides t c = forked (c .before .before .before .pre .1) (c .before .if1 .left) (c .fork-at .ensures)
+
 pub +total-under-spec : {M : Type 1} → statement M
 unfolding totalOf
 +total-under-spec = close μ-total-under λ t. total-under-lts.spec (
@@ -46,14 +60,17 @@ unfolding totalOf
     -- fork-at-requires
     (λ c κs. in-reach (c .before .before .pre .1) (c .if1 .left))
     -- sub-less
-    (λ c. forked (c .before .before .before .pre .1) (c .before .if1 .left) (c .fork-at .ensures) .some)
+    (λ c. sides t c .some)
     -- counted-requires
     (λ c κs. search needs)
     -- total-under-requires
-    (λ c κs. let d = forked (c .before .before .before .before .before .pre .1) (c .before .before .before .if1 .left) (c .before .before .fork-at .ensures) in (omega (arith, c .before .before .before .before .before .pre .0, d .some), d .on-left))
+    (λ c κs. (omega (arith, c .before .before .before .before .before .pre .0, sides t (c .before .before) .some), sides t (c .before .before) .on-left))
     -- total-under-requires-2
-    (λ c κs. let d = forked (c .before .before .before .before .before .before .pre .1) (c .before .before .before .before .if1 .left) (c .before .before .before .fork-at .ensures) in (omega (arith, c .before .before .before .before .before .before .pre .0, d .some), d .on-right))
+    (λ c κs. (omega (arith, c .before .before .before .before .before .before .pre .0, sides t (c .before .before .before) .some), sides t (c .before .before .before) .on-right))
     -- add3-requires
-    (λ c κs. total-few (forked (c .before .before .before .before .before .before .before .pre .1) (c .before .before .before .before .before .if1 .left) (c .before .before .before .before .fork-at .ensures)) _ (c .before .total-under .ensures) (c .total-under2 .ensures) (c .before .before .counted .ensures))
+    (λ c κs.
+    omega (arith, total-few (sides t (c .before .before .before .before)) _ (c .before .total-under .ensures) (c .total-under2 .ensures) (c .before .before .counted .ensures)))
     -- returns-2
-    (λ c. total-here (forked (c .before .before .before .before .before .before .before .before .pre .1) (c .before .before .before .before .before .before .if1 .left) (c .before .before .before .before .before .fork-at .ensures)) _ (c .before .before .total-under .ensures) (c .before .total-under2 .ensures) (c .before .before .before .counted .ensures) (c .add3 .ensures))
+    (λ c.
+    total-here (sides t (c .before .before .before .before .before)) _ (c .before .before .total-under .ensures) (c .before .total-under2 .ensures)
+    (c .before .before .before .counted .ensures) (c .add3 .ensures))
