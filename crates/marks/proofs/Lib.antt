@@ -1,0 +1,3 @@
+-- Laws of the mark bits.
+pub mod Bits
+pub mod Laws

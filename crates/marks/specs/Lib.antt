@@ -1,0 +1,2 @@
+-- The mark bits as numbers.
+pub mod Marks

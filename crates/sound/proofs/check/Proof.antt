@@ -1,0 +1,50 @@
+use Rattle.scope.specs.Sums.{checkAnswer}
+use mathlib.Core.Path.{sym}
+use native.Mathlib.Omega.{arith}
+use Rattle.sound.proofs.Opened.{opened}
+use borrow.Author.Needs.{needs}
+use Rattle.sound.proofs.check.Statement.{statement}
+use Rattle.sound.proofs.check.Tie as tie
+
+enter-sound-requires : tie.Need-enter-sound-requires
+enter-sound-requires c κs = search needs
+
+enum-known-why : tie.Need-enum-known-why
+enum-known-why c = search needs
+
+refuse-requires : tie.Need-refuse-requires
+refuse-requires c κs = search needs
+
+enum-told : tie.Need-enum-told
+enum-told c = search needs
+
+change-requires : tie.Need-change-requires
+change-requires c κs = let o = opened _ _ _ (c .before .before .enter-sound .ensures) (c .enum-told .given .1) in omega (arith, o .sized)
+
+long-requires : tie.Need-long-requires
+long-requires c κs = search needs
+
+accept-requires : tie.Need-accept-requires
+accept-requires c κs = search needs
+
+returns : tie.Need-returns
+unfolding checkAnswer
+returns c = simp (sym (c .before .before .before .before .enter-sound .ensures), c .before .before .why .given .1, sym (c .refuse .ensures))
+
+returns-2 : tie.Need-returns-2
+unfolding checkAnswer
+returns-2 c = simp (sym (c .before .before .before .before .before .enter-sound .ensures), c .before .before .before .enum-told .given .1, sym (c .before .before .change .ensures), sym (c .before .long .ensures), sym (c .accept .ensures))
+
+pub check-spec : {M : Type 1} → statement M
+check-spec =
+    tie.close
+    (tie.spec
+    enter-sound-requires
+    enum-known-why
+    refuse-requires
+    enum-told
+    change-requires
+    long-requires
+    accept-requires
+    returns
+    returns-2)

@@ -1,0 +1,18 @@
+use Rattle.sound.specs.Scan.{inPlace}
+use mathlib.Core.Path.{sym}
+use borrow.Author.Needs.{needs}
+use Rattle.sound.proofs.in_place.Statement.{statement}
+use Rattle.sound.proofs.in_place.Tie as tie
+
+long-requires : tie.Need-long-requires
+long-requires c κs = search needs
+
+fit-requires : tie.Need-fit-requires
+fit-requires c κs = search needs
+
+returns : tie.Need-returns
+unfolding inPlace
+returns c = simp (sym (c .before .long .ensures), sym (c .fit .ensures))
+
+pub in-place-spec : {M : Type 1} → statement M
+in-place-spec = tie.close (tie.spec long-requires fit-requires returns)

@@ -1,0 +1,21 @@
+use mathlib.Core.Path.{sym}
+use borrow.Author.Needs.{needs}
+use Rattle.sound.specs.Scan.{settledAt}
+use Rattle.sound.proofs.settled.Statement.{statement}
+use Rattle.sound.proofs.settled.Tie as tie
+
+marked-requires : tie.Need-marked-requires
+marked-requires c κs = search needs
+
+slot-at-requires : tie.Need-slot-at-requires
+slot-at-requires c κs = search needs
+
+blank-requires : tie.Need-blank-requires
+blank-requires c κs = search needs
+
+returns : tie.Need-returns
+unfolding settledAt
+returns c = simp (sym (c .before .before .marked .ensures), sym (c .before .slot-at .ensures), sym (c .blank .ensures))
+
+pub settled-spec : {M : Type 1} → statement M
+settled-spec = tie.close (tie.spec marked-requires slot-at-requires blank-requires returns)

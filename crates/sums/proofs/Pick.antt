@@ -1,0 +1,90 @@
+-- The r-th of a list that is put together from two. Assumes nothing.
+use Prim.Native.Nat.{ℕ, suc, _+_, _-_, _≤_, _<_}
+use mathlib.Core.Path.{_≡_, refl, sym, ap, _∙_}
+use mathlib.Core.List.{List, [], _∷_, _++_, map-append}
+use native.Mathlib.Decide.{decLe}
+use native.Mathlib.Omega.{arith}
+use lib.ListN.{length, getD, length-append, List·getD-append}
+use lib.Seq.{getD-append-add, getD-append-seam}
+use borrow.Author.Tests.{le-leb, lt-leb}
+use Rattle.scope.specs.Tree.{Batch, Tree, leaf, node, size, inOrder}
+use Rattle.scope.specs.Sums.{slotsInOrder, pick}
+use Rattle.scope.specs.declared.outcome.Rank.{Rank}
+use Rattle.scope.specs.declared.outcome.Rank.the-variants.{At, Past}
+use Rattle.sums.specs.Hangs.{after, Few}
+
+-- a node's slots in order are those on its left, its own, and those on its right
+pub order-node : (d : Batch) (a b : ℕ) (l r : Tree) → slotsInOrder (node d a b l r) ≡ slotsInOrder l ++ (d .slot ∷ slotsInOrder r)
+unfolding inOrder
+order-node d a b l r = map-append (λ (e : Batch). e .slot) (inOrder l) (d ∷ inOrder r)
+
+pub order-size : (T : Tree) → length (slotsInOrder T) ≡ size T
+unfolding inOrder size
+order-size leaf = refl
+order-size (node d a b l r) =
+    ap length (order-node d a b l r) ∙ length-append (slotsInOrder l) (d .slot ∷ slotsInOrder r)
+    ∙ omega (arith, order-size l, order-size r)
+
+pick-at : (r : ℕ) (l : List ℕ) → r ≤ length l → pick r l ≡ At (getD l (r - 1) 0)
+unfolding pick
+pick-at r l h = rw (le-leb r (length l) h) refl
+
+pub pick-past : (r : ℕ) (l : List ℕ) → length l < r → pick r l ≡ Past (length l)
+unfolding pick
+pick-past r l h = rw (lt-leb r (length l) h) refl
+
+-- how a pick ends: within the list, or past it
+at-is : (r : ℕ) (l : List ℕ) (k : ℕ) → pick r l ≡ At k → (r ≤ length l) × (getD l (r - 1) 0 ≡ k)
+at-is r l k e =
+    elim (decLe r (length l)) [
+      | yes h ↦ (h, cc (pick-at r l h))
+      | no h ↦ let p = pick-past r l (omega arith) in let z : _≡_ {A = ℕ} 0 1 = cc in absurd (omega arith)
+    ]
+
+pub past-is : (r : ℕ) (l : List ℕ) (n : ℕ) → pick r l ≡ Past n → (n ≡ length l) × (n < r)
+past-is r l n e =
+    elim (decLe r (length l)) [
+      | yes h ↦ let p = pick-at r l h in let z : _≡_ {A = ℕ} 0 1 = cc in absurd (omega arith)
+      | no h ↦ let i : n ≡ length l = cc (pick-past r l (omega arith)) in (i, omega arith)
+    ]
+
+few-of : (p : Rank) → ((n : ℕ) → p ≡ Past n → n ≤ 4095) → Few p
+few-of (At k) h = tt
+few-of (Past n) h = h n refl
+
+pub pick-few : (r : ℕ) (l : List ℕ) → length l ≤ 4095 → Few (pick r l)
+pick-few r l h = few-of (pick r l) (λ n e. omega (arith, past-is r l n e))
+
+-- a list, one slot, and a list after it
+module _ (r : ℕ) (l : List ℕ) (x : ℕ) (rs : List ℕ) (pos : 1 ≤ r) where
+  all-length : length (l ++ (x ∷ rs)) ≡ length l + suc (length rs)
+  all-length = length-append l (x ∷ rs)
+
+  pub pick-left : (k : ℕ) → pick r l ≡ At k → pick r (l ++ (x ∷ rs)) ≡ At k
+  pick-left k e =
+      let p = at-is r l k e in
+      pick-at r (l ++ (x ∷ rs)) (omega (arith, all-length))
+      ∙ ap At (List·getD-append l (x ∷ rs) 0 (r - 1) (omega arith) ∙ p .1)
+
+  module _ (n : ℕ) (e : pick r l ≡ Past n) where
+    pub pick-here : n + 1 ≡ r → pick r (l ++ (x ∷ rs)) ≡ At x
+    pick-here i =
+        let p = past-is r l n e in
+        let j : r - 1 ≡ length l = omega arith in
+        pick-at r (l ++ (x ∷ rs)) (omega (arith, all-length))
+        ∙ ap At (ap (λ (q : ℕ). getD (l ++ (x ∷ rs)) q 0) j ∙ getD-append-seam l x rs 0)
+
+    pub pick-after : (n + 1 ≡ r → ⊥) → pick r (l ++ (x ∷ rs)) ≡ after (n + 1) (pick (r - (n + 1)) rs)
+    pick-after ne =
+        let p = past-is r l n e in
+        let i : ℕ = r - (n + 1) in
+        elim (decLe i (length rs)) [
+          | yes h ↦
+              let j : r - 1 ≡ length l + suc (i - 1) = omega arith in
+              pick-at r (l ++ (x ∷ rs)) (omega (arith, all-length))
+              ∙ ap At (ap (λ (q : ℕ). getD (l ++ (x ∷ rs)) q 0) j ∙ getD-append-add l (x ∷ rs) (suc (i - 1)) 0)
+              ∙ sym (ap (after (n + 1)) (pick-at i rs h))
+          | no h ↦
+              pick-past r (l ++ (x ∷ rs)) (omega (arith, all-length)) ∙ ap Past (omega (arith, all-length))
+              ∙ sym (ap (after (n + 1)) (pick-past i rs (omega arith)))
+        ]

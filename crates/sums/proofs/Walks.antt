@@ -1,0 +1,86 @@
+-- What each sum is at a slot, from those of its two sides; and how large it can be. Assumes nothing.
+use Prim.Native.Nat.{ℕ, _+_, _*_, _≤_}
+use mathlib.Core.Path.{_≡_, ap}
+use mathlib.Core.Bool.{Bool, true, false, not, cond, _&&_}
+use mathlib.Core.List.{List}
+use native.Mathlib.Omega.{arith}
+use lib.Dec.{leb, eqb}
+use borrow.Author.Tests.{leb-true}
+use Rattle.scope.proofs.Bools.{and-l, and-r}
+use Rattle.scope.specs.Table.{slotAt}
+use Rattle.scope.specs.Fit.{stateOk, piecesOk, fitSlot}
+use Rattle.scope.specs.Tree.{Tree, leaf, node, size, trueHeight, over}
+use Rattle.scope.specs.Sound.{Spells}
+use Rattle.scope.specs.Sums.{totalOf}
+use Rattle.scope.specs.declared.slot.Slot.{Slot}
+use Rattle.sums.specs.declared.Fork.{Fork}
+use Rattle.sums.specs.Hangs.{Says, counted}
+use Rattle.sums.proofs.Down.{Forked, said-at, says-fork}
+
+pub height-most : (T : Tree) → trueHeight T ≤ size T
+unfolding trueHeight size
+height-most leaf = omega arith
+height-most (node d a b l r) = omega (arith, height-most l, height-most r)
+
+-- a fit slot's pieces
+pieces-most : (c : ℕ) (s : Slot) → fitSlot c s ≡ true → s .pieces ≤ 1000000
+unfolding fitSlot piecesOk
+pieces-most c s e =
+    leb-true _ _ (and-r (not (eqb (s .pieces) 0)) _
+    (and-r (stateOk (s .state) && not (eqb (s .key) 0)) _ (and-l _ _ (and-l _ _ (and-l _ _ e)))))
+
+counted-most : (K c : ℕ) (s : Slot) → fitSlot c s ≡ true → counted K s ≤ 1000000
+unfolding counted
+counted-most K c s e = at (leb (s .key) K) (s .pieces) (pieces-most c s e)
+  where
+    at : (b : Bool) (p : ℕ) → p ≤ 1000000 → cond b p 0 ≤ 1000000
+    at true p h = h
+    at false p h = omega arith
+
+-- a total is at most a million for each slot
+total-most : (t : List ℕ) (c K x : ℕ) (T : Tree) → Spells t c x T → totalOf K T ≤ 1000000 * size T
+unfolding Spells totalOf size counted
+total-most t c K x leaf p = omega arith
+total-most t c K x (node d a b l r) p =
+    let own : cond (leb (d .key) K) (d .pieces) 0 ≤ 1000000 = rw (p .holds) (counted-most K c (slotAt t x) (p .fit)) in
+    omega (arith, total-most t c K (slotAt t x .left) l (p .left), total-most t c K (slotAt t x .right) r (p .right))
+
+module _ {t : List ℕ} {more x : ℕ} {f : Fork} (d : Forked t more x f) where
+  module _ {a b : ℕ} (sa : Says t (f .left) trueHeight a) (sb : Says t (f .right) trueHeight b) where
+    pub heights-few : (a ≤ 4095) × (b ≤ 4095)
+    heights-few =
+        omega (
+          arith,
+          height-most (d .on-left .tree),
+          height-most (d .on-right .tree),
+          d .few,
+          d .most,
+          said-at (d .on-left) trueHeight sa,
+          said-at (d .on-right) trueHeight sb,
+        )
+
+    pub height-here : {r : ℕ} → r ≡ over a b → Says t x trueHeight r
+    unfolding trueHeight
+    height-here e = says-fork trueHeight d (cc (e, said-at (d .on-left) trueHeight sa, said-at (d .on-right) trueHeight sb))
+
+  module _ (K : ℕ) {a b own : ℕ} (sa : Says t (f .left) (totalOf K) a) (sb : Says t (f .right) (totalOf K) b)
+      (eo : own ≡ counted K (f .slot)) where
+    pub total-few : (a ≤ 4095000000) × (b ≤ 4095000000) × (own ≤ 1000000)
+    total-few =
+        let l = d .on-left in
+        let r = d .on-right in
+        omega (
+          arith,
+          total-most t (l .slots) K (f .left) (l .tree) (l .reached),
+          total-most t (r .slots) K (f .right) (r .tree) (r .reached),
+          counted-most K (d .c) (f .slot) (d .fit),
+          d .few,
+          d .most,
+          said-at l (totalOf K) sa,
+          said-at r (totalOf K) sb,
+        )
+
+    pub total-here : {r : ℕ} → r ≡ a + b + own → Says t x (totalOf K) r
+    unfolding totalOf counted
+    total-here e =
+        says-fork (totalOf K) d (cc (e, eo, ap (λ (s : Slot). s .key) (d .slot), ap (λ (s : Slot). s .pieces) (d .slot), said-at (d .on-left) (totalOf K) sa, said-at (d .on-right) (totalOf K) sb))

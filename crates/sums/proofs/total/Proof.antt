@@ -1,0 +1,54 @@
+use Rattle.scope.specs.Sums.{totalAnswer}
+use native.Mathlib.Omega.{arith}
+use Rattle.sound.proofs.Opened.{opened}
+use mathlib.Core.Path.{sym}
+use borrow.Author.Needs.{needs}
+use Rattle.sums.proofs.total.Statement.{statement}
+use Rattle.sums.proofs.total.Tie as tie
+
+enter-sound-requires : tie.Need-enter-sound-requires
+enter-sound-requires c κs = search needs
+
+enum-known-why : tie.Need-enum-known-why
+enum-known-why c = search needs
+
+refuse-requires : tie.Need-refuse-requires
+refuse-requires c κs = search needs
+
+enum-known-c : tie.Need-enum-known-c
+enum-known-c c = search needs
+
+total-in-requires : tie.Need-total-in-requires
+total-in-requires c κs = opened _ _ _ (c .before .before .before .enter-sound .ensures) (c .before .c .given .1)
+
+change-requires : tie.Need-change-requires
+change-requires c κs = let w = opened _ _ _ (c .before .before .before .before .enter-sound .ensures) (c .before .before .c .given .1) in omega (arith, w .sized)
+
+long-requires : tie.Need-long-requires
+long-requires c κs = search needs
+
+accept-requires : tie.Need-accept-requires
+accept-requires c κs = search needs
+
+returns : tie.Need-returns
+unfolding totalAnswer
+returns c = simp (sym (c .before .before .before .before .enter-sound .ensures), c .before .before .why .given .1, sym (c .refuse .ensures))
+
+returns-2 : tie.Need-returns-2
+unfolding totalAnswer
+returns-2 c = simp (sym (c .before .before .before .before .before .before .before .enter-sound .ensures), c .before .before .before .before .before .c .given .1, sym (c .before .before .before .total-in .ensures), sym (c .before .before .change .ensures), sym (c .before .long .ensures), sym (c .accept .ensures))
+
+pub total-spec : {M : Type 1} → statement M
+total-spec =
+    tie.close
+    (tie.spec
+    enter-sound-requires
+    enum-known-why
+    refuse-requires
+    enum-known-c
+    total-in-requires
+    change-requires
+    long-requires
+    accept-requires
+    returns
+    returns-2)

@@ -1,0 +1,54 @@
+-- A tree that hangs at a link, and what a walk of it says. Assumes nothing: these are statements.
+use Prim.Native.Nat.{ℕ, _+_, _≤_}
+use mathlib.Core.Path.{_≡_}
+use mathlib.Core.Bool.{true, cond}
+use mathlib.Core.List.{List}
+use lib.Dec.{leb}
+use Rattle.scope.specs.Table.{word, changeWord, slotAt}
+use Rattle.scope.specs.Tree.{Tree, size, trueHeight}
+use Rattle.scope.specs.Sound.{Spells, treeIn}
+use Rattle.scope.specs.Answers.{accepted, answering}
+use Rattle.scope.specs.Sums.{soundGate}
+use Rattle.scope.specs.declared.answer.Answer.{Answer}
+use Rattle.scope.specs.declared.slot.Slot.{Slot}
+use Rattle.scope.specs.declared.outcome.Rank.{Rank}
+use Rattle.scope.specs.declared.outcome.Rank.the-variants.{At, Past}
+use Rattle.words.specs.Ready.{Sized}
+use Rattle.sums.specs.declared.Fork.{Fork}
+
+-- a tree of at most `more` slots hangs at link x
+pub record Hangs (t : List ℕ) (more x : ℕ) : Type 0 where
+  pub slots : ℕ
+  pub sized : Sized t slots
+  pub link : x ≤ slots
+  pub most : more ≤ 4095
+  pub tree : Tree
+  pub reached : Spells t slots x tree
+  pub few : size tree ≤ more
+
+-- r is what f says of the tree that the words spell from link x on
+abbrev pub Says : {A : Type 0} → List ℕ → ℕ → (Tree → A) → A → Type 0
+Says t x f r = (c : ℕ) (T : Tree) → Spells t c x T → r ≡ f T
+
+-- a slot with its two sons
+abbrev pub forkAt : List ℕ → ℕ → Fork
+forkAt t x = record { slot = slotAt t x; left = slotAt t x .left; right = slotAt t x .right }
+
+-- the true height of a sound table, answered as the calls of document 01 answer
+unfoldable pub heightAnswer : List ℕ → Answer
+heightAnswer t =
+    answering (soundGate t true) (λ c. accepted (word t changeWord) (trueHeight (treeIn t c)) 0 0)
+
+-- the pieces of a record whose key is at most K, else 0
+unfoldable pub counted : ℕ → Slot → ℕ
+counted K s = cond (leb (s .key) K) (s .pieces) 0
+
+-- a rank on the right side, where `seen` slots stand before that side
+abbrev pub after : ℕ → Rank → Rank
+after seen (At k) = At k
+after seen (Past n) = Past (seen + n)
+
+-- no more slots than a table has
+abbrev pub Few : Rank → Type 0
+Few (At k) = Unit {0}
+Few (Past n) = n ≤ 4095

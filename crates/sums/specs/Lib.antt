@@ -1,0 +1,2 @@
+-- What the walks of both sides ask of a table and promise.
+pub mod Hangs

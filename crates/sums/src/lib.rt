@@ -1,0 +1,194 @@
+// Sums over a sound table: the true height, the total and the rank, each by a walk of both sides of every slot.
+use scope::Answer;
+use scope::Gate;
+use scope::Rank;
+use scope::Refusal;
+use scope::Slot;
+ghost use mathlib.Core.Path.{_≡_};
+ghost use Prim.Native.Nat.{_+_, _≤_, _<_};
+ghost use Rattle.scope.specs.Table.{InTable};
+ghost use Rattle.scope.specs.Tree.{over, trueHeight};
+ghost use Rattle.scope.specs.Sound.{treeIn};
+ghost use Rattle.scope.specs.Sums.{rankOf, ranked, rankAnswer, totalOf, totalAnswer};
+ghost use Rattle.words.specs.Ready.{Headed};
+ghost use Rattle.sound.specs.Whole.{Whole};
+ghost use Rattle.sums.specs.Hangs.{Hangs, Says, forkAt, heightAnswer, counted, after, Few};
+
+// A slot with its two sons.
+pub struct Fork {
+    pub slot: Slot,
+    pub left: usize,
+    pub right: usize,
+}
+
+pub fn fork_at(t: &[u32], x: usize) -> Fork
+    requires { ⌜ InTable (now t) x ⌝ }
+    ensures { λ r. ⌜ r ≡ forkAt (now (t .entry)) x ⌝ }
+{
+    let slot = words::slot_at(t, x);
+    let left = words::wide(slot.left);
+    let right = words::wide(slot.right);
+    Fork { slot, left, right }
+}
+
+// One more than the larger of two heights.
+pub fn over(a: usize, b: usize) -> usize
+    requires { ⌜ (a ≤ 4095) × (b ≤ 4095) ⌝ }
+    ensures { λ r. ⌜ r ≡ over a b ⌝ }
+{
+    if a < b { b + 1 } else { a + 1 }
+}
+
+// The true height of what hangs at link x, where at most `more` slots do.
+pub fn height_under(t: &[u32], more: usize, x: usize) -> usize
+    requires { ⌜ Hangs (now t) more x ⌝ }
+    ensures { λ r. ⌜ Says (now (t .entry)) x trueHeight r ⌝ }
+{
+    if x == 0 {
+        return 0;
+    }
+    let f = fork_at(t, x);
+    let less = more - 1;
+    let a = height_under(t, less, f.left);
+    let b = height_under(t, less, f.right);
+    over(a, b)
+}
+
+// The same over a sound table.
+pub fn height_in(t: &[u32], c: usize) -> usize
+    requires { ⌜ Whole (now t) c ⌝ }
+    ensures { λ r. ⌜ r ≡ trueHeight (treeIn (now (t .entry)) c) ⌝ }
+{
+    height_under(t, words::records(t), words::root(t))
+}
+
+// The true height, answered like a call of document 01, though none asks for it.
+pub fn height(t: &[u32]) -> Answer
+    ensures { λ r. ⌜ r ≡ heightAnswer (now (t .entry)) ⌝ }
+{
+    match sound::enter_sound(t, true) {
+        Gate::Shut(why) => words::refuse(why),
+        Gate::Open(c) => {
+            let value = words::size(height_in(t, c));
+            words::accept(words::long(words::change(t)), value, 0, 0)
+        }
+    }
+}
+
+// The pieces of a record, where its key counts.
+pub fn counted(key: u32, s: Slot) -> u64
+    ensures { λ r. ⌜ r ≡ counted key s ⌝ }
+{
+    if s.key <= key {
+        words::long(s.pieces)
+    } else {
+        0
+    }
+}
+
+pub fn add3(a: u64, b: u64, own: u64) -> u64
+    requires { ⌜ a + b + own < 10000000000000 ⌝ }
+    ensures { λ r. ⌜ r ≡ a + b + own ⌝ }
+{
+    a + b + own
+}
+
+// The pieces of all records at link x with a key of at most `key`.
+pub fn total_under(t: &[u32], more: usize, x: usize, key: u32) -> u64
+    requires { ⌜ Hangs (now t) more x ⌝ }
+    ensures { λ r. ⌜ Says (now (t .entry)) x (totalOf key) r ⌝ }
+{
+    if x == 0 {
+        return 0;
+    }
+    let f = fork_at(t, x);
+    let less = more - 1;
+    let slot = f.slot;
+    let own = counted(key, slot);
+    let a = total_under(t, less, f.left, key);
+    let b = total_under(t, less, f.right, key);
+    add3(a, b, own)
+}
+
+// The same over a sound table.
+pub fn total_in(t: &[u32], c: usize, key: u32) -> u64
+    requires { ⌜ Whole (now t) c ⌝ }
+    ensures { λ r. ⌜ r ≡ totalOf key (treeIn (now (t .entry)) c) ⌝ }
+{
+    total_under(t, words::records(t), words::root(t), key)
+}
+
+// total: the pieces of all records with a key of at most `key`.
+pub fn total(t: &[u32], key: u32) -> Answer
+    ensures { λ r. ⌜ r ≡ totalAnswer (now (t .entry)) key ⌝ }
+{
+    match sound::enter_sound(t, true) {
+        Gate::Shut(why) => words::refuse(why),
+        Gate::Open(c) => {
+            let value = total_in(t, c, key);
+            words::accept(words::long(words::change(t)), value, 0, 0)
+        }
+    }
+}
+
+// What a rank on the right side is over the whole, where `seen` slots stand before that side.
+pub fn after(seen: usize, found: Rank) -> Rank
+    requires { ⌜ (seen ≤ 4095) × Few found ⌝ }
+    ensures { λ r. ⌜ r ≡ after seen found ⌝ }
+{
+    match found {
+        Rank::At(k) => Rank::At(k),
+        Rank::Past(n) => Rank::Past(seen + n),
+    }
+}
+
+// The slot of the r-th smallest key at link x, or how many slots hang there.
+pub fn rank_under(t: &[u32], more: usize, x: usize, r: usize) -> Rank
+    requires { ⌜ (1 ≤ r) × Hangs (now t) more x ⌝ }
+    ensures { λ a. ⌜ Says (now (t .entry)) x (rankOf r) a ⌝ }
+{
+    if x == 0 {
+        return Rank::Past(0);
+    }
+    let f = fork_at(t, x);
+    let less = more - 1;
+    match rank_under(t, less, f.left, r) {
+        Rank::At(k) => Rank::At(k),
+        Rank::Past(n) => {
+            let seen = n + 1;
+            if seen == r {
+                return Rank::At(x);
+            }
+            after(seen, rank_under(t, less, f.right, r - seen))
+        }
+    }
+}
+
+// The same over a sound table.
+pub fn rank_in(t: &[u32], c: usize, r: usize) -> Rank
+    requires { ⌜ (1 ≤ r) × Whole (now t) c ⌝ }
+    ensures { λ a. ⌜ a ≡ rankOf r (treeIn (now (t .entry)) c) ⌝ }
+{
+    rank_under(t, words::records(t), words::root(t), r)
+}
+
+// What rank answers.
+pub fn ranked(t: &[u32], found: Rank) -> Answer
+    requires { ⌜ Headed (now t) ⌝ }
+    ensures { λ r. ⌜ r ≡ ranked (now (t .entry)) found ⌝ }
+{
+    match found {
+        Rank::At(slot) => words::accept(words::long(words::change(t)), words::size(slot), 0, 0),
+        Rank::Past(_) => words::refuse(Refusal::KeyAbsent),
+    }
+}
+
+// rank: the slot of the r-th smallest key.
+pub fn rank(t: &[u32], r: u32) -> Answer
+    ensures { λ a. ⌜ a ≡ rankAnswer (now (t .entry)) r ⌝ }
+{
+    match sound::enter_sound(t, r != 0) {
+        Gate::Shut(why) => words::refuse(why),
+        Gate::Open(c) => ranked(t, rank_in(t, c, words::wide(r))),
+    }
+}

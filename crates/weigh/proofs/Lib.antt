@@ -1,0 +1,3 @@
+-- Laws of the weight.
+pub mod Weight
+pub mod Under

@@ -1,0 +1,2 @@
+-- What a tree weighs, as one recursion.
+pub mod Weight
