@@ -1,0 +1,2 @@
+-- The laws of trees.
+pub mod Weight

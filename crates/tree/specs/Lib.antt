@@ -1,0 +1,2 @@
+-- What the laws of trees speak of, besides the definitions of `scope`.
+pub mod Weight
