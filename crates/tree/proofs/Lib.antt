@@ -1,2 +1,3 @@
 -- The laws of trees.
 pub mod Weight
+pub mod Steps

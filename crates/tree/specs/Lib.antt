@@ -1,2 +1,4 @@
 -- What the laws of trees speak of, besides the definitions of `scope`.
 pub mod Weight
+pub mod Rewrite
+pub mod Step
