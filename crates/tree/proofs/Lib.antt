@@ -1,3 +1,5 @@
 -- The laws of trees.
 pub mod Weight
 pub mod Steps
+pub mod Sides
+pub mod Keeps

@@ -2,3 +2,4 @@
 pub mod Weight
 pub mod Rewrite
 pub mod Step
+pub mod Shape
