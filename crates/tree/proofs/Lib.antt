@@ -3,3 +3,4 @@ pub mod Weight
 pub mod Steps
 pub mod Sides
 pub mod Keeps
+pub mod Weigh
