@@ -70,7 +70,7 @@ doubled-keeps s dv du dw v u w m e f c =
     }
 
 module _ (test : Test) where
-  top-keeps : (s : Side) (k : Kind) (T T′ : Tree) → Step test s k T T′ → Keeps T T′
+  pub top-keeps : (s : Side) (k : Kind) (T T′ : Tree) → Step test s k T T′ → Keeps T T′
   top-keeps s k T T′ (propagates dv du v u m n c g) = propagated-keeps s dv du v u m n c
   top-keeps s k T T′ (leans dv du v u m n c g) = rotated-keeps s dv du v u m n c
   top-keeps s k T T′ (evens dv du v u m n c g) = rotated-keeps s dv du v u m n c

@@ -4,3 +4,7 @@ pub mod Steps
 pub mod Sides
 pub mod Keeps
 pub mod Weigh
+pub mod Guards
+pub mod Numbers
+pub mod Fall
+pub mod Bound

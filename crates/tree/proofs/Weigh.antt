@@ -59,6 +59,12 @@ module _ (S : Scale) (fair : Fair S) where
           at c (v .far) {o = o + suc (suc (size m + size n))} {o′ = o + suc (size m) + suc (size n)} (omega arith),
         ))
 
+  -- a son of the same size in the place of another
+  pub inside-weigh : (s : Side) (d : Batch) (x : Pair) (near near′ far : Tree) (o above : ℕ) → size near′ ≡ size near
+      → weigh S (mk s d x near′ far) o above + weigh S near (o + suc (size far)) (x .near)
+      ≡ weigh S (mk s d x near far) o above + weigh S near′ (o + suc (size far)) (x .near)
+  inside-weigh s d x near near′ far o above e = simp (weigh-mk, e) (omega arith)
+
   -- w over u and v, where u and w were reliable
   module _ (s : Side) (dv du dw : Batch) (v u w : Pair) (m e f c : Tree) (o above : ℕ) where
     pub doubled-weigh : v .near ≡ localHeight u → u .far ≡ localHeight w
