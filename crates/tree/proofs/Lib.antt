@@ -8,3 +8,4 @@ pub mod Guards
 pub mod Numbers
 pub mod Fall
 pub mod Bound
+pub mod Quiet

@@ -77,14 +77,30 @@ module _ (test : Test) where
   hung-is s d x none far T′ e P k = no-tree e
   hung-is s d x (some near) far T′ e P k = let q : mk s d x near far ≡ T′ = cc in rw (← q) (k near refl)
 
-  -- what holds of every step at the top, and goes from a son to its node, holds of a rewriting at any place
-  pub anywhere : (R : Tree → Tree → Type 0)
-      → ((s : Side) (k : Kind) (T T′ : Tree) → Step test s k T T′ → R T T′)
-      → ((s : Side) (d : Batch) (x : Pair) (near near′ far : Tree) → R near near′ → R (mk s d x near far) (mk s d x near′ far))
-      → (way : List Side) (r : Rule) (T T′ : Tree) → rewriteAt test way r T ≡ some T′ → R T T′
+  -- what holds of every step at the top, and goes from a son to its node, holds of a rewriting at the end of any way
+  pub along : (r : Rule) (R : List Side → Tree → Tree → Type 0)
+      → ((T T′ : Tree) → Step test (r .side) (r .kind) T T′ → R [] T T′)
+      → ((way : List Side) (s : Side) (d : Batch) (x : Pair) (near near′ far : Tree) → R way near near′
+      → R (s ∷ way) (mk s d x near far) (mk s d x near′ far))
+      → (way : List Side) (T T′ : Tree) → rewriteAt test way r T ≡ some T′ → R way T T′
   unfolding rewriteAt
-  anywhere R top inside [] r T T′ e = top (r .side) (r .kind) T T′ (stepped r T T′ e)
-  anywhere R top inside (s ∷ way) r T T′ e =
-      on-top s T T′ _ e (λ X. R X T′)
-      (λ d x near far p. hung-is s d x (rewriteAt test way r near) far T′ p (λ X. R (mk s d x near far) X)
-      (λ near′ q. inside s d x near near′ far (anywhere R top inside way r near near′ q)))
+  along r R top inside [] T T′ e = top T T′ (stepped r T T′ e)
+  along r R top inside (s ∷ way) T T′ e =
+      on-top s T T′ _ e (λ X. R (s ∷ way) X T′)
+      (λ d x near far p. hung-is s d x (rewriteAt test way r near) far T′ p (R (s ∷ way) (mk s d x near far))
+      (λ near′ q. inside way s d x near near′ far (along r R top inside way near near′ q)))
+
+  -- where the way does not matter
+  pub anywhere : (R : Tree → Tree → Type 0) → ((s : Side) (k : Kind) (T T′ : Tree) → Step test s k T T′ → R T T′)
+      → ((s : Side) (d : Batch) (x : Pair) (near near′ far : Tree) → R near near′
+      → R (mk s d x near far) (mk s d x near′ far))
+      → (way : List Side) (r : Rule) (T T′ : Tree) → rewriteAt test way r T ≡ some T′ → R T T′
+  anywhere R top inside way r =
+      along r (λ w. R) (top (r .side) (r .kind)) (λ w. inside) way
+
+  -- a rewriting of the near son is one of the node
+  pub inside : (way : List Side) (r : Rule) (s : Side) (d : Batch) (x : Pair) (near near′ far : Tree)
+      → rewriteAt test way r near ≡ some near′
+      → rewriteAt test (s ∷ way) r (mk s d x near far) ≡ some (mk s d x near′ far)
+  unfolding rewriteAt
+  inside way r s d x near near′ far e = simp (top-is, e)
