@@ -9,3 +9,5 @@ pub mod Numbers
 pub mod Fall
 pub mod Bound
 pub mod Quiet
+pub mod Height
+pub mod Order
