@@ -2,6 +2,7 @@
 pub mod Weight
 pub mod Steps
 pub mod Sides
+pub mod Moves
 pub mod Keeps
 pub mod Weigh
 pub mod Guards
