@@ -12,3 +12,5 @@ pub mod Bound
 pub mod Quiet
 pub mod Height
 pub mod Order
+pub mod Apart
+pub mod Variant

@@ -11,14 +11,15 @@ use Rattle.tree.specs.Weight.{Scale, weigh, Fair}
 use Rattle.tree.specs.Rewrite.{mk, propagated, rotated, doubled}
 use Rattle.tree.proofs.Sides.{size-mk}
 
-module _ (S : Scale) (fair : Fair S) where
-  abbrev pub balance : Pair → ℕ
-  balance x = S .balances (x .near) (x .far)
+-- what a node's own balance weighs
+abbrev pub balance : Scale → Pair → ℕ
+balance S x = S .balances (x .near) (x .far)
 
+module _ (S : Scale) (fair : Fair S) where
   pub weigh-mk : (s : Side) (d : Batch) (x : Pair) (near far : Tree) (o above : ℕ)
       → weigh S (mk s d x near far) o above
       ≡ S .carries o above (localHeight x)
-      + (balance x + (weigh S near (o + suc (size far)) (x .near) + weigh S far (o + suc (size near)) (x .far)))
+      + (balance S x + (weigh S near (o + suc (size far)) (x .near) + weigh S far (o + suc (size near)) (x .far)))
   unfolding weigh
   weigh-mk Left d x near far o above = refl
   weigh-mk Right d x near far o above =
@@ -34,7 +35,7 @@ module _ (S : Scale) (fair : Fair S) where
 
     -- v's near register now says u's local height
     pub propagated-weigh : weigh S (propagated s dv du v u m n c) o above
-        + (S .carries o above (localHeight v) + balance v + S .carries (o + suc (size c)) (v .near) (localHeight u))
+        + (S .carries o above (localHeight v) + balance S v + S .carries (o + suc (size c)) (v .near) (localHeight u))
         ≡ before
         + (S .carries o above (over (localHeight u) (v .far)) + S .balances (localHeight u) (v .far))
     propagated-weigh =
@@ -44,10 +45,10 @@ module _ (S : Scale) (fair : Fair S) where
     -- u over v, where u was reliable
     pub rotated-weigh : v .near ≡ localHeight u
         → weigh S (rotated s dv du v u m n c) o above
-        + (S .carries o above (localHeight v) + (balance v + balance u))
+        + (S .carries o above (localHeight v) + (balance S v + balance S u))
         ≡ before
         + (S .carries o above (over (u .near) (localHeight (turnedV v u)))
-        + (S .balances (u .near) (localHeight (turnedV v u)) + balance (turnedV v u)))
+        + (S .balances (u .near) (localHeight (turnedV v u)) + balance S (turnedV v u)))
     rotated-weigh e =
         let z : S .carries (o + suc (size c)) (v .near) (localHeight u) ≡ 0 = rw e (fair .none _ _) in
         simp (weigh-mk, size-mk)
@@ -69,11 +70,11 @@ module _ (S : Scale) (fair : Fair S) where
   module _ (s : Side) (dv du dw : Batch) (v u w : Pair) (m e f c : Tree) (o above : ℕ) where
     pub doubled-weigh : v .near ≡ localHeight u → u .far ≡ localHeight w
         → weigh S (doubled s dv du v u dw w m e f c) o above
-        + (S .carries o above (localHeight v) + (balance v + (balance u + balance w)))
+        + (S .carries o above (localHeight v) + (balance S v + (balance S u + balance S w)))
         ≡ weigh S (mk s dv v (mk s du u m (mk s dw w e f)) c) o above
         + (S .carries o above (over (localHeight (doubledU u w)) (localHeight (doubledV v w)))
         + (S .balances (localHeight (doubledU u w)) (localHeight (doubledV v w))
-        + (balance (doubledU u w) + balance (doubledV v w))))
+        + (balance S (doubledU u w) + balance S (doubledV v w))))
     doubled-weigh p q =
         let z : S .carries (o + suc (size c)) (v .near) (localHeight u) ≡ 0 = rw p (fair .none _ _) in
         let y : S .carries (o + suc (size c) + suc (size m)) (u .far) (localHeight w) ≡ 0 = rw q (fair .none _ _) in

@@ -3,3 +3,4 @@ pub mod Weight
 pub mod Rewrite
 pub mod Step
 pub mod Shape
+pub mod Variant
