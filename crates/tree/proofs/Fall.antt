@@ -18,7 +18,7 @@ use Rattle.tree.proofs.Numbers.{tilt-sym, carry-none, carry-step, propa
 use Rattle.tree.proofs.Guards.{propagate-says, lean-says, even-says, double-says}
 use Rattle.tree.proofs.Steps.{anywhere}
 use Rattle.tree.proofs.Sides.{size-mk}
-use Rattle.tree.proofs.Keeps.{top-keeps, size-kept}
+use Rattle.tree.proofs.Keeps.{step-records, size-kept}
 use Rattle.tree.proofs.Weigh.{propagated-weigh, rotated-weigh, doubled-weigh, inside-weigh}
 
 -- the scale of the worth
@@ -77,7 +77,7 @@ top-falls s k T T′ (doubles dv du dw v u w m e f c g) o above =
     )
 
 top-lower : (s : Side) (k : Kind) (T T′ : Tree) → Step guard s k T T′ → Lower T T′
-top-lower s k T T′ x = record { same = size-kept T T′ (top-keeps guard s k T T′ x); falls = top-falls s k T T′ x }
+top-lower s k T T′ x = record { same = size-kept T T′ (step-records guard s k T T′ x); falls = top-falls s k T T′ x }
 
 inside-lower : (s : Side) (d : Batch) (x : Pair) (near near′ far : Tree) → Lower near near′
     → Lower (mk s d x near far) (mk s d x near′ far)

@@ -1,32 +1,31 @@
 -- Safety: a rewriting keeps the records in their order, hence every slot and key, and the zeros beside empty links. Assumes nothing.
-use Prim.Native.Nat.{ℕ, suc, _+_}
+use Prim.Native.Nat.{ℕ, suc, _+_, _≤_}
 use mathlib.Core.Path.{_≡_, refl, sym, _∙_, ap}
 use mathlib.Core.Option.{Option, none, some}
 use mathlib.Core.List.{List, [], _∷_, _++_}
 use native.Mathlib.Omega.{arith}
+use borrow.Author.Tests.{leb-true}
 use lib.ListN.{length, length-append}
 use Rattle.scope.specs.Tree.{Batch, Tree, leaf, node, size, inOrder, times, same}
-use Rattle.scope.specs.Rules.{Pair, localHeight}
+use Rattle.scope.specs.Rules.{guard, highest}
+use Rattle.scope.proofs.Bools.{and-r}
 use Rattle.scope.specs.declared.side.Side.{Side}
 use Rattle.scope.specs.declared.rule.Kind.{Kind}
 use Rattle.scope.specs.declared.rule.Rule.{Rule}
-use Rattle.tree.specs.Rewrite.{mk, Test, rewriteAt}
+use Rattle.tree.specs.Rewrite.{mk, Test, rewriteAt, within}
 use Rattle.tree.specs.Step.{Step, propagates, leans, evens, doubles}
-use Rattle.tree.specs.Shape.{Beside, Relaxed}
+use Rattle.tree.specs.Shape.{Beside, Relaxed, Low}
 use Rattle.tree.proofs.Steps.{anywhere}
 use Rattle.tree.proofs.Sides.{between-turns, order-mk, beside-mk}
-use Rattle.tree.proofs.Moves.{step-moves, inside-moves}
+use Rattle.tree.proofs.Moves.{moves}
 
 pub record Keeps (T T′ : Tree) : Type 0 where
   pub records : inOrder T′ ≡ inOrder T
   pub relaxed : Relaxed T → Relaxed T′
-  pub beside : (a : ℕ) → Beside a T → Beside a T′
-
-beside-local : (s : Side) (d : Batch) (x : Pair) (near far : Tree) → Beside (localHeight x) (mk s d x near far)
-beside-local s d x near far = beside-mk s d x near far (localHeight x)
 
 module _ (test : Test) where
-  step-records : (s : Side) (k : Kind) (T T′ : Tree) → Step test s k T T′ → inOrder T′ ≡ inOrder T
+  -- the records stay in order
+  pub step-records : (s : Side) (k : Kind) (T T′ : Tree) → Step test s k T T′ → inOrder T′ ≡ inOrder T
   step-records s k T T′ (propagates dv du v u m n c g) = simp order-mk
   step-records s k T T′ (leans dv du v u m n c g) = simp (order-mk, between-turns)
   step-records s k T T′ (evens dv du v u m n c g) = simp (order-mk, between-turns)
@@ -39,27 +38,24 @@ module _ (test : Test) where
   step-beside s k T T′ (evens dv du v u m n c g) a = beside-mk s _ _ _ _ a
   step-beside s k T T′ (doubles dv du dw v u w m e f c g) a = beside-mk s _ _ _ _ a
 
-  pub top-keeps : (s : Side) (k : Kind) (T T′ : Tree) → Step test s k T T′ → Keeps T T′
-  top-keeps s k T T′ x =
-      record {
-        records = step-records s k T T′ x;
-        relaxed = step-moves Beside beside-local test s k T T′ x;
-        beside = λ a _. step-beside s k T T′ x a;
-      }
-
-  inside-keeps : (s : Side) (d : Batch) (x : Pair) (near near′ far : Tree) → Keeps near near′
-      → Keeps (mk s d x near far) (mk s d x near′ far)
-  inside-keeps s d x near near′ far k =
-      record {
-        records = simp (order-mk, k .records);
-        relaxed = inside-moves Beside beside-local s d x near near′ far
-            (record { each = k .relaxed; top = λ _. k .beside });
-        beside = λ a _. beside-mk s _ _ _ _ a;
-      }
-
   -- at any place
   pub keeps : (way : List Side) (r : Rule) (T T′ : Tree) → rewriteAt test way r T ≡ some T′ → Keeps T T′
-  keeps = anywhere test Keeps top-keeps inside-keeps
+  keeps way r T T′ e =
+      record {
+        records = anywhere test (λ T T′. inOrder T′ ≡ inOrder T) step-records
+            (λ s d x near near′ far h. simp (order-mk, h)) way r T T′ e;
+        relaxed = moves test Beside (λ k v u w x _ _ s d near far. beside-mk s d x near far _)
+            (λ s k T T′ x _ a _. step-beside s k T T′ x a) (λ s d x near near′ far a _. beside-mk s d x near′ far a)
+            way r T T′ e .each;
+      }
+
+-- an accepted firing leaves no register above the limit
+pub low-kept : (limit : ℕ) (way : List Side) (r : Rule) (T T′ : Tree) → rewriteAt (within limit) way r T ≡ some T′
+    → Low limit T → Low limit T′
+low-kept limit way r T T′ e =
+    moves (within limit) (λ a T. a ≤ limit)
+    (λ k v u w x g h s d near far. omega (arith, leb-true (highest k v u w) limit (and-r (guard k v u w) _ g)))
+    (λ s k T T′ x _ a h. h) (λ s d x near near′ far a h. h) way r T T′ e .each
 
 -- what the records in order decide: how often a slot stands in the tree, and how many nodes there are
 abbrev timesIn : ℕ → List Batch → ℕ
@@ -81,8 +77,8 @@ unfolding size inOrder
 size-order leaf = refl
 size-order (node d a b l r) = simp length-append (omega (arith, size-order l, size-order r))
 
-pub times-kept : (T T′ : Tree) → Keeps T T′ → (k : ℕ) → times k T′ ≡ times k T
-times-kept T T′ h k = times-order k T′ ∙ ap (timesIn k) (h .records) ∙ sym (times-order k T)
+pub times-kept : (T T′ : Tree) → inOrder T′ ≡ inOrder T → (k : ℕ) → times k T′ ≡ times k T
+times-kept T T′ e k = times-order k T′ ∙ ap (timesIn k) e ∙ sym (times-order k T)
 
-pub size-kept : (T T′ : Tree) → Keeps T T′ → size T′ ≡ size T
-size-kept T T′ h = size-order T′ ∙ ap length (h .records) ∙ sym (size-order T)
+pub size-kept : (T T′ : Tree) → inOrder T′ ≡ inOrder T → size T′ ≡ size T
+size-kept T T′ e = size-order T′ ∙ ap length e ∙ sym (size-order T)

@@ -14,3 +14,4 @@ pub mod Height
 pub mod Order
 pub mod Apart
 pub mod Variant
+pub mod Covered

@@ -4,7 +4,6 @@ use mathlib.Core.Path.{_≡_, sym}
 use mathlib.Core.List.{List, [], _∷_, _++_}
 use native.Mathlib.Omega.{arith}
 use Rattle.scope.specs.Tree.{Batch, Tree, leaf, node, inOrder, Below, Above, Ordered}
-use Rattle.tree.proofs.Keeps.{Keeps}
 
 -- a statement on every record of a list
 abbrev All : (Batch → Type 0) → List Batch → Type 0
@@ -110,5 +109,5 @@ rises-ordered (node d a b l r) h =
       rises-ordered r (t .last),
     )
 
-pub ordered-kept : (T T′ : Tree) → Keeps T T′ → Ordered T → Ordered T′
-ordered-kept T T′ k h = rises-ordered T′ (rw (k .records) (ordered-rises T h))
+pub ordered-kept : (T T′ : Tree) → inOrder T′ ≡ inOrder T → Ordered T → Ordered T′
+ordered-kept T T′ e h = rises-ordered T′ (rw e (ordered-rises T h))

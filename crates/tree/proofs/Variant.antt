@@ -21,7 +21,7 @@ use Rattle.tree.proofs.Apart.{short-mono, long-down, lean-apart, even-a
 use Rattle.tree.proofs.Guards.{propagate-says, lean-says, even-says, double-says}
 use Rattle.tree.proofs.Steps.{anywhere}
 use Rattle.tree.proofs.Sides.{size-mk}
-use Rattle.tree.proofs.Keeps.{top-keeps, size-kept}
+use Rattle.tree.proofs.Keeps.{step-records, size-kept}
 use Rattle.tree.proofs.Weigh.{balance, propagated-weigh, rotated-weigh, doubled-weigh, inside-weigh}
 
 -- the three scales are fair
@@ -124,7 +124,7 @@ record Falling (T T′ : Tree) : Type 0 where
   less : (o above : ℕ) → Less (weights T′ o above) (weights T o above)
 
 top-falling : (s : Side) (k : Kind) (T T′ : Tree) → Step guard s k T T′ → Falling T T′
-top-falling s k T T′ x = record { same = size-kept T T′ (top-keeps guard s k T T′ x); less = step-falls s k T T′ x }
+top-falling s k T T′ x = record { same = size-kept T T′ (step-records guard s k T T′ x); less = step-falls s k T T′ x }
 
 inside-falling : (s : Side) (d : Batch) (x : Pair) (near near′ far : Tree) → Falling near near′
     → Falling (mk s d x near far) (mk s d x near′ far)
