@@ -15,3 +15,5 @@ pub mod Order
 pub mod Apart
 pub mod Variant
 pub mod Covered
+pub mod Paper
+pub mod Sharp
