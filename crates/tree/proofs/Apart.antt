@@ -6,6 +6,7 @@ use native.Mathlib.Decide.{decLe}
 use native.Mathlib.Nat.{mul-le-mul-left}
 use Rattle.scope.specs.Tree.{over}
 use Rattle.tree.specs.Variant.{short, long, apart, excess}
+use Rattle.tree.proofs.Double.{doubled}
 
 -- negative carries: none, by d, and how they grow with the local height
 pub short-is : (o a d : ℕ) → short o a (a + d) ≡ o * d
@@ -89,10 +90,10 @@ module _ (a p q r : ℕ) (e : a ≡ suc p) (f : q ≡ p) (k : r < p) where
         excess-is (suc p) r (omega arith),
       ))
 
--- the double rotation, where x is the larger of w's registers
-double-x : (p r x y : ℕ) → y ≤ x → p ≤ x → r ≤ x
-    → 3 + (apart (suc x) (over y r) + (apart p x + apart y r)) ≤ apart (suc (suc x)) r + (apart p (suc x) + apart x y)
-double-x p r x y hy hp hr =
+-- the double rotation, where w's near register is the larger
+double-near : (p r x y : ℕ) → y ≤ x → p ≤ x → r ≤ x
+    → 3 + (apart p x + (apart y r + apart (suc x) (over y r))) ≤ apart x y + (apart p (suc x) + apart (suc (suc x)) r)
+double-near p r x y hy hp hr =
     let one = apart-sym p x in
     let two = apart-is x p hp in
     let three = apart-sym p (suc x) in
@@ -108,40 +109,12 @@ double-x p r x y hy hp hr =
           rw e (omega (arith, apart-is (suc x) (suc r) (omega arith), apart-sym y r, apart-is r y (omega arith)))
     ]
 
--- and where y is: the same from the other end
-double-y : (p r x y : ℕ) → x ≤ y → p ≤ y → r ≤ y
-    → 3 + (apart (over p x) (suc y) + (apart p x + apart y r)) ≤ apart (suc (suc y)) r + (apart p (suc y) + apart x y)
-double-y p r x y hx hp hr =
-    let e : over p x ≡ over x p = omega arith in
-    rw e
-    (omega (
-      arith,
-      double-x r p y x hx hr hp,
-      apart-sym r y,
-      apart-sym x p,
-      apart-sym y x,
-      apart-sym (suc y) (over x p),
-      apart-sym r (suc y),
-      apart-sym p (suc y),
-      apart-is (suc y) r (omega arith),
-      apart-is (suc y) p (omega arith),
-      apart-is (suc (suc y)) r (omega arith),
-      apart-is (suc (suc y)) p (omega arith),
-    ))
+apart-grows : (a b : ℕ) → b < a → apart (suc a) b ≡ apart a b + 1
+apart-grows a b h = omega (arith, apart-is a b (omega arith), apart-is (suc a) b (omega arith))
 
 pub double-apart : (a p q r x y : ℕ) → a ≡ suc q → q ≡ over x y → p < q → r < q
-    → 3 + (apart (over p x) (over y r) + (apart p x + apart y r)) ≤ apart a r + (apart p q + apart x y)
-double-apart a p q r x y f g hp hr =
-    elim (decLe y x) [
-      | yes le ↦
-          let d : q ≡ suc x = omega arith in
-          let e : over p x ≡ suc x = omega arith in
-          rw (f, d, e) (double-x p r x y le (omega arith) (omega arith))
-      | no gt ↦
-          let d : q ≡ suc y = omega arith in
-          let e : over y r ≡ suc y = omega arith in
-          rw (f, d, e) (double-y p r x y (omega arith) (omega arith) (omega arith))
-    ]
+    → 3 + (apart p x + (apart y r + apart (over p x) (over y r))) ≤ apart x y + (apart p q + apart a r)
+double-apart = doubled apart 1 3 apart-sym apart-grows double-near
 
 -- a propagation that raises a register by suc d, and so the local height by k
 rise : (o s a b h above d k : ℕ) → h ≡ a + suc d → over h b ≡ over a b + k → k ≤ suc d

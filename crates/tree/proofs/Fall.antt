@@ -1,6 +1,7 @@
 -- Each accepted firing lowers the worth: at the top, at any place, over any list of attempts. Assumes nothing.
 use Prim.Native.Nat.{ℕ, suc, _+_, _*_, _≤_, _<_, max}
 use mathlib.Core.Path.{_≡_, refl, sym, _∙_, ap}
+use mathlib.Core.Bool.{true}
 use mathlib.Core.Option.{Option, none, some}
 use mathlib.Core.List.{List, [], _∷_}
 use native.Mathlib.Omega.{arith}
@@ -9,17 +10,15 @@ use Rattle.scope.specs.Rules.{Pair, pair, localHeight, guard, turnedV, doubledU
 use Rattle.scope.specs.Worth.{worthOf}
 use Rattle.scope.specs.declared.side.Side.{Side}
 use Rattle.scope.specs.declared.rule.Kind.{Kind}
+use Rattle.scope.specs.declared.rule.Kind.the-variants.{Propagate, Lean, Even, Double}
 use Rattle.scope.specs.declared.rule.Rule.{Rule}
 use Rattle.tree.specs.Weight.{tilt, carry, topHeight, under, Scale, weigh, Fair}
-use Rattle.tree.specs.Rewrite.{mk, propagated, rotated, doubled, fireAt, Attempt, attempted, kept, counted, after, accepted}
-use Rattle.tree.specs.Step.{Step, propagates, leans, evens, doubles}
+use Rattle.tree.specs.Measure.{taken, brought, Measure}
+use Rattle.tree.specs.Rewrite.{fireAt, Attempt, attempted, kept, counted, after, accepted}
 use Rattle.tree.proofs.Weight.{worth-under, worth-least}
 use Rattle.tree.proofs.Numbers.{tilt-sym, carry-none, carry-step, propagate-num, lean-tilt, even-tilt, double-tilt}
 use Rattle.tree.proofs.Guards.{propagate-says, lean-says, even-says, double-says}
-use Rattle.tree.proofs.Steps.{anywhere}
-use Rattle.tree.proofs.Sides.{size-mk}
-use Rattle.tree.proofs.Keeps.{step-records, size-kept}
-use Rattle.tree.proofs.Weigh.{propagated-weigh, rotated-weigh, doubled-weigh, inside-weigh}
+use Rattle.tree.proofs.Falls.{falls}
 
 -- the scale of the worth
 abbrev worthScale : Scale
@@ -34,73 +33,50 @@ under-weigh leaf o above = refl
 under-weigh (node d a b l r) o above =
     omega (arith, under-weigh l (o + suc (size r)) a, under-weigh r (o + suc (size l)) b)
 
-record Lower (T T′ : Tree) : Type 0 where
-  same : size T′ ≡ size T
-  falls : (o above : ℕ) → weigh worthScale T′ o above < weigh worthScale T o above
-
-top-falls : (s : Side) (k : Kind) (T T′ : Tree) → Step guard s k T T′ → (o above : ℕ)
-    → weigh worthScale T′ o above < weigh worthScale T o above
-top-falls s k T T′ (propagates dv du v u m n c g) o above =
-    omega (
-      arith,
-      propagated-weigh worthScale fair s dv du v u m n c o above,
-      propagate-num o (size c) (v .near) (v .far) (localHeight u) above (propagate-says v u u g),
-    )
-top-falls s k T T′ (leans dv du v u m n c g) o above =
-    let h = lean-says v u u g in
+-- what a firing brings weighs less than what it takes
+lighter : (k : Kind) (o above away : ℕ) (v u w : Pair) → guard k v u w ≡ true
+    → brought o above away v u w k worthScale < taken o above away v u w k worthScale
+lighter Propagate o above away v u w g =
+    propagate-num o away (v .near) (v .far) (localHeight u) above (propagate-says v u w g)
+lighter Lean o above away v u w g =
+    let h = lean-says v u w g in
     let α : localHeight v ≡ suc (suc (u .near)) = omega arith in
     let β : over (u .near) (localHeight (turnedV v u)) ≡ suc (u .near) = omega arith in
-    omega (
+    rw (α, β)
+    (omega (
       arith,
-      rw (α, β) at (rotated-weigh worthScale fair s dv du v u m n c o above (omega arith)),
       carry-step o above (suc (u .near)),
       lean-tilt (v .near) (u .near) (u .far) (v .far) (h .0) (h .1) (h .2),
-    )
-top-falls s k T T′ (evens dv du v u m n c g) o above =
-    let h = even-says v u u g in
-    let α : localHeight v ≡ suc (suc (u .near)) = omega arith in
-    let β : over (u .near) (localHeight (turnedV v u)) ≡ suc (suc (u .near)) = omega arith in
-    omega (
-      arith,
-      rw (α, β) at (rotated-weigh worthScale fair s dv du v u m n c o above (omega arith)),
-      even-tilt (v .near) (u .near) (u .far) (v .far) (h .0) (h .1) (h .2),
-    )
-top-falls s k T T′ (doubles dv du dw v u w m e f c g) o above =
+    ))
+lighter Even o above away v u w g =
+    let h = even-says v u w g in
+    let α : localHeight v ≡ over (u .near) (localHeight (turnedV v u)) = omega arith in
+    rw α (omega (arith, even-tilt (v .near) (u .near) (u .far) (v .far) (h .0) (h .1) (h .2)))
+lighter Double o above away v u w g =
     let h = double-says v u w g in
     let α : localHeight v ≡ suc (suc (localHeight w)) = omega arith in
     let β : over (localHeight (doubledU u w)) (localHeight (doubledV v w)) ≡ suc (localHeight w) = omega arith in
-    omega (
+    rw (α, β)
+    (omega (
       arith,
-      rw (α, β) at (doubled-weigh worthScale fair s dv du dw v u w m e f c o above (omega arith) (h .1)),
       carry-step o above (suc (localHeight w)),
       double-tilt (v .near) (u .near) (u .far) (v .far) (w .near) (w .far) (h .0) (h .1) (h .2) (h .3),
-    )
+    ))
 
-top-lower : (s : Side) (k : Kind) (T T′ : Tree) → Step guard s k T T′ → Lower T T′
-top-lower s k T T′ x = record { same = size-kept T T′ (step-records guard s k T T′ x); falls = top-falls s k T T′ x }
-
-inside-lower : (s : Side) (d : Batch) (x : Pair) (near near′ far : Tree) → Lower near near′
-    → Lower (mk s d x near far) (mk s d x near′ far)
-inside-lower s d x near near′ far h =
+abbrev worth-measure : Measure
+worth-measure =
     record {
-      same = simp (size-mk, h .same);
-      falls = λ o above.
-          omega (
-            arith,
-            inside-weigh worthScale fair s d x near near′ far o above (h .same),
-            h .falls (o + suc (size far)) (x .near),
-          );
+      Below = λ f g. f worthScale < g worthScale;
+      shift = λ f g p q law h. omega (arith, law worthScale fair);
+      local = lighter;
     }
-
-lower : (way : List Side) (r : Rule) (T T′ : Tree) → fireAt way r T ≡ some T′ → Lower T T′
-lower = anywhere guard Lower top-lower inside-lower
 
 -- THE WORTH FALLS at each accepted firing, by any rule, anywhere
 pub worth-falls : (way : List Side) (r : Rule) (T T′ : Tree) → fireAt way r T ≡ some T′ → worthOf T′ < worthOf T
 worth-falls way r T T′ e =
     omega (
       arith,
-      lower way r T T′ e .falls 0 (topHeight T),
+      falls worth-measure way r T T′ e .below 0 (topHeight T),
       under-weigh T 0 (topHeight T),
       under-weigh T′ 0 (topHeight T),
       worth-under T,

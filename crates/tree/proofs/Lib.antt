@@ -6,7 +6,9 @@ pub mod Moves
 pub mod Keeps
 pub mod Weigh
 pub mod Guards
+pub mod Double
 pub mod Numbers
+pub mod Falls
 pub mod Fall
 pub mod Bound
 pub mod Quiet

@@ -8,6 +8,7 @@ use native.Mathlib.Decide.{decLe, decLt}
 use native.Mathlib.Nat.{mul-le-mul-left}
 use Rattle.scope.specs.Tree.{over}
 use Rattle.tree.specs.Weight.{tilt, carry}
+use Rattle.tree.proofs.Double.{doubled}
 
 -- what a balance weighs: exactly, at most, and how it moves. `tilt` stays shut elsewhere, and is an atom to omega
 pub tilt-sym : (a b : ℕ) → tilt a b ≡ tilt b a
@@ -85,10 +86,10 @@ even-tilt a p q r f g k =
       tilt-gt (suc p) r (omega arith),
     ))
 
--- the double rotation, where x is the larger of w's registers
-double-x : (p r x y : ℕ) → y ≤ x → p ≤ x → r ≤ x
+-- the double rotation, where w's near register is the larger
+double-near : (p r x y : ℕ) → y ≤ x → p ≤ x → r ≤ x
     → 7 + (tilt p x + (tilt y r + tilt (suc x) (over y r))) ≤ tilt x y + (tilt p (suc x) + tilt (suc (suc x)) r)
-double-x p r x y hy hp hr =
+double-near p r x y hy hp hr =
     let even = tilt-sym p x in
     let less = tilt-ub x p hp in
     let one = tilt-sym p (suc x) in
@@ -103,40 +104,12 @@ double-x p r x y hy hp hr =
           rw e (omega (arith, tilt-suc x r, tilt-ub x r hr, tilt-sym y r, tilt-mono x r y (omega arith) hr))
     ]
 
--- and where y is: the same from the other end
-double-y : (p r x y : ℕ) → x ≤ y → p ≤ y → r ≤ y
-    → 7 + (tilt p x + (tilt y r + tilt (over p x) (suc y))) ≤ tilt x y + (tilt p (suc y) + tilt (suc (suc y)) r)
-double-y p r x y hx hp hr =
-    let e : over p x ≡ over x p = omega arith in
-    rw e
-    (omega (
-      arith,
-      double-x r p y x hx hr hp,
-      tilt-sym r y,
-      tilt-sym x p,
-      tilt-sym y x,
-      tilt-sym (suc y) (over x p),
-      tilt-sym r (suc y),
-      tilt-sym p (suc y),
-      tilt-gt (suc y) r (omega arith),
-      tilt-gt (suc y) p (omega arith),
-      tilt-gt (suc (suc y)) r (omega arith),
-      tilt-gt (suc (suc y)) p (omega arith),
-    ))
+tilt-grows : (a b : ℕ) → b < a → tilt (suc a) b ≡ tilt a b + 3
+tilt-grows a b h = omega (arith, tilt-gt a b h, tilt-gt (suc a) b (omega arith))
 
 pub double-tilt : (a p q r x y : ℕ) → a ≡ suc q → q ≡ over x y → p < q → r < q
     → 7 + (tilt p x + (tilt y r + tilt (over p x) (over y r))) ≤ tilt x y + (tilt p q + tilt a r)
-double-tilt a p q r x y f g hp hr =
-    elim (decLe y x) [
-      | yes le ↦
-          let d : q ≡ suc x = omega arith in
-          let e : over p x ≡ suc x = omega arith in
-          rw (f, d, e) (double-x p r x y le (omega arith) (omega arith))
-      | no gt ↦
-          let d : q ≡ suc y = omega arith in
-          let e : over y r ≡ suc y = omega arith in
-          rw (f, d, e) (double-y p r x y (omega arith) (omega arith) (omega arith))
-    ]
+double-tilt = doubled tilt 3 7 tilt-sym tilt-grows double-near
 
 -- a carry below 0, above 0, and none
 pub carry-neg : (o a d : ℕ) → carry o a (a + d) ≡ o * d
@@ -158,12 +131,20 @@ carry-none o h = let z : h - h ≡ 0 = omega arith in rw z (omega arith)
 
 -- a propagation that raises the register by suc d
 propagate-up : (o s a b d above : ℕ)
-    → 6 * carry o above (over (a + suc d) b) + tilt (a + suc d) b < 6 * carry o above (over a b) + tilt a b + 6 * carry (o + suc s) a (a + suc d)
+    → 6 * carry o above (over (a + suc d) b) + tilt (a + suc d) b
+    < 6 * carry o above (over a b) + tilt a b + 6 * carry (o + suc s) a (a + suc d)
 propagate-up o s a b d above =
     let e : ℕ = over (a + suc d) b - over a b in
     let le : e ≤ suc d = omega arith in
     let eq : over (a + suc d) b ≡ over a b + e = omega arith in
-    rw eq (omega (arith, carry-up o above (over a b) e, mul-le-mul-left o le, tilt-up a b (suc d), carry-neg (o + suc s) a (suc d)))
+    rw eq
+    (omega (
+      arith,
+      carry-up o above (over a b) e,
+      mul-le-mul-left o le,
+      tilt-up a b (suc d),
+      carry-neg (o + suc s) a (suc d),
+    ))
 
 -- a propagation that lowers it by suc d
 tilt-fall : (h b d : ℕ) → tilt h b + 6 * (over (h + suc d) b - over h b) < tilt (h + suc d) b + 6 * suc d
@@ -171,13 +152,20 @@ tilt-fall h b d =
     elim (decLe (h + suc d) b) [
       | yes higher ↦ omega (arith, tilt-down h b (suc d))
       | no lower ↦ elim (decLe b h) [
-        | yes below ↦ omega (arith, tilt-mono (h + suc d) h b below (omega arith), tilt-gt (h + suc d) b (omega arith), tilt-ub h b below)
+        | yes below ↦
+            omega (
+              arith,
+              tilt-mono (h + suc d) h b below (omega arith),
+              tilt-gt (h + suc d) b (omega arith),
+              tilt-ub h b below,
+            )
         | no between ↦ omega (arith, tilt-gt (h + suc d) b (omega arith), tilt-sym h b, tilt-ub b h (omega arith))
       ]
     ]
 
 propagate-down : (o s h b d above : ℕ)
-    → 6 * carry o above (over h b) + tilt h b < 6 * carry o above (over (h + suc d) b) + tilt (h + suc d) b + 6 * carry (o + suc s) (h + suc d) h
+    → 6 * carry o above (over h b) + tilt h b
+    < 6 * carry o above (over (h + suc d) b) + tilt (h + suc d) b + 6 * carry (o + suc s) (h + suc d) h
 propagate-down o s h b d above =
     let e : ℕ = over (h + suc d) b - over h b in
     let eq : over (h + suc d) b ≡ over h b + e = omega arith in

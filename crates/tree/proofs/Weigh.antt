@@ -7,13 +7,11 @@ use Rattle.scope.specs.Tree.{Batch, Tree, leaf, node, size, over}
 use Rattle.scope.specs.Rules.{Pair, pair, localHeight, turnedV, doubledU, doubledV}
 use Rattle.scope.specs.declared.side.Side.{Side}
 use Rattle.scope.specs.declared.side.Side.the-variants.{Left, Right}
+use Rattle.scope.specs.declared.rule.Kind.the-variants.{Propagate, Lean, Double}
 use Rattle.tree.specs.Weight.{Scale, weigh, Fair}
+use Rattle.tree.specs.Measure.{balance, taken, brought}
 use Rattle.tree.specs.Rewrite.{mk, propagated, rotated, doubled}
 use Rattle.tree.proofs.Sides.{size-mk}
-
--- what a node's own balance weighs
-abbrev pub balance : Scale → Pair → ℕ
-balance S x = S .balances (x .near) (x .far)
 
 module _ (S : Scale) (fair : Fair S) where
   pub weigh-mk : (s : Side) (d : Batch) (x : Pair) (near far : Tree) (o above : ℕ)
@@ -35,9 +33,8 @@ module _ (S : Scale) (fair : Fair S) where
 
     -- v's near register now says u's local height
     pub propagated-weigh : weigh S (propagated s dv du v u m n c) o above
-        + (S .carries o above (localHeight v) + balance S v + S .carries (o + suc (size c)) (v .near) (localHeight u))
-        ≡ before
-        + (S .carries o above (over (localHeight u) (v .far)) + S .balances (localHeight u) (v .far))
+        + taken o above (size c) v u u Propagate S
+        ≡ before + brought o above (size c) v u u Propagate S
     propagated-weigh =
         simp (weigh-mk, size-mk)
         (omega (arith, fair .none (o + suc (size c)) (localHeight u)))
@@ -45,10 +42,8 @@ module _ (S : Scale) (fair : Fair S) where
     -- u over v, where u was reliable
     pub rotated-weigh : v .near ≡ localHeight u
         → weigh S (rotated s dv du v u m n c) o above
-        + (S .carries o above (localHeight v) + (balance S v + balance S u))
-        ≡ before
-        + (S .carries o above (over (u .near) (localHeight (turnedV v u)))
-        + (S .balances (u .near) (localHeight (turnedV v u)) + balance S (turnedV v u)))
+        + taken o above (size c) v u u Lean S
+        ≡ before + brought o above (size c) v u u Lean S
     rotated-weigh e =
         let z : S .carries (o + suc (size c)) (v .near) (localHeight u) ≡ 0 = rw e (fair .none _ _) in
         simp (weigh-mk, size-mk)
@@ -70,11 +65,8 @@ module _ (S : Scale) (fair : Fair S) where
   module _ (s : Side) (dv du dw : Batch) (v u w : Pair) (m e f c : Tree) (o above : ℕ) where
     pub doubled-weigh : v .near ≡ localHeight u → u .far ≡ localHeight w
         → weigh S (doubled s dv du v u dw w m e f c) o above
-        + (S .carries o above (localHeight v) + (balance S v + (balance S u + balance S w)))
-        ≡ weigh S (mk s dv v (mk s du u m (mk s dw w e f)) c) o above
-        + (S .carries o above (over (localHeight (doubledU u w)) (localHeight (doubledV v w)))
-        + (S .balances (localHeight (doubledU u w)) (localHeight (doubledV v w))
-        + (balance S (doubledU u w) + balance S (doubledV v w))))
+        + taken o above (size c) v u w Double S
+        ≡ weigh S (mk s dv v (mk s du u m (mk s dw w e f)) c) o above + brought o above (size c) v u w Double S
     doubled-weigh p q =
         let z : S .carries (o + suc (size c)) (v .near) (localHeight u) ≡ 0 = rw p (fair .none _ _) in
         let y : S .carries (o + suc (size c) + suc (size m)) (u .far) (localHeight w) ≡ 0 = rw q (fair .none _ _) in
@@ -83,8 +75,20 @@ module _ (S : Scale) (fair : Fair S) where
           arith,
           fair .none (o + suc (suc (size f + size c))) (localHeight (doubledU u w)),
           fair .none (o + suc (suc (size m + size e))) (localHeight (doubledV v w)),
-          at m (u .near) {o = o + suc (size c) + suc (suc (size e + size f))} {o′ = o + suc (suc (size f + size c)) + suc (size e)} (omega arith),
-          at e (w .near) {o = o + suc (size c) + suc (size m) + suc (size f)} {o′ = o + suc (suc (size f + size c)) + suc (size m)} (omega arith),
-          at f (w .far) {o = o + suc (size c) + suc (size m) + suc (size e)} {o′ = o + suc (suc (size m + size e)) + suc (size c)} (omega arith),
-          at c (v .far) {o = o + suc (suc (size m + suc (size e + size f)))} {o′ = o + suc (suc (size m + size e)) + suc (size f)} (omega arith),
+          at m (u .near)
+              {o = o + suc (size c) + suc (suc (size e + size f))}
+              {o′ = o + suc (suc (size f + size c)) + suc (size e)}
+              (omega arith),
+          at e (w .near)
+              {o = o + suc (size c) + suc (size m) + suc (size f)}
+              {o′ = o + suc (suc (size f + size c)) + suc (size m)}
+              (omega arith),
+          at f (w .far)
+              {o = o + suc (size c) + suc (size m) + suc (size e)}
+              {o′ = o + suc (suc (size m + size e)) + suc (size c)}
+              (omega arith),
+          at c (v .far)
+              {o = o + suc (suc (size m + suc (size e + size f)))}
+              {o′ = o + suc (suc (size m + size e)) + suc (size f)}
+              (omega arith),
         ))
