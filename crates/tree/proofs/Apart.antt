@@ -1,12 +1,12 @@
 -- The arithmetic of the paper's three quantities. Assumes nothing.
-use Prim.Native.Nat.{ℕ, suc, _+_, _*_, _-_, _≤_, _<_, max}
+use Prim.Native.Nat.{ℕ, suc, _+_, _*_, _-_, _≤_, _<_}
 use mathlib.Core.Path.{_≡_, refl}
 use native.Mathlib.Omega.{arith}
 use native.Mathlib.Decide.{decLe}
 use native.Mathlib.Nat.{mul-le-mul-left}
 use Rattle.scope.specs.Tree.{over}
 use Rattle.tree.specs.Variant.{short, long, apart, excess}
-use Rattle.tree.proofs.Double.{doubled}
+use Rattle.tree.proofs.Rotate.{Grows, lean, double}
 
 -- negative carries: none, by d, and how they grow with the local height
 pub short-is : (o a d : ℕ) → short o a (a + d) ≡ o * d
@@ -49,19 +49,24 @@ unfolding excess
 excess-sym a b = omega arith
 
 -- the rotations: a and r are v's registers, p and q u's, x and y w's
+grows : Grows apart 1 0
+unfolding apart
+grows =
+    record {
+      even = apart-sym;
+      next = λ a b. omega arith;
+      is = λ a b h. omega arith;
+      most = λ a b h. omega arith;
+      less = λ a b h k l. omega arith;
+    }
+
 pub lean-apart : (a p q r : ℕ) → a ≡ suc p → q < p → r < p
-    → 3 + (apart p (over q r) + apart q r) ≤ apart a r + apart p q
-lean-apart a p q r e h k =
-    let one = apart-is a r (omega arith) in
-    let two = apart-is p q (omega arith) in
-    elim (decLe r q) [
-      | yes le ↦
-          let f : over q r ≡ suc q = omega arith in
-          rw f (omega (arith, apart-is p (suc q) h, apart-is q r le))
-      | no gt ↦
-          let f : over q r ≡ suc r = omega arith in
-          rw f (omega (arith, apart-is p (suc r) k, apart-sym q r, apart-is r q (omega arith)))
-    ]
+    → 3 + (apart q r + apart p (over q r)) ≤ apart p q + apart a r
+lean-apart = lean apart 1 0 3 grows refl
+
+pub double-apart : (a p q r x y : ℕ) → a ≡ suc q → q ≡ over x y → p < q → r < q
+    → 3 + (apart p x + (apart y r + apart (over p x) (over y r))) ≤ apart x y + (apart p q + apart a r)
+double-apart = double apart 1 0 3 grows refl
 
 -- an even u: the balances come to the same, and one of them is nearer to one
 module _ (a p q r : ℕ) (e : a ≡ suc p) (f : q ≡ p) (k : r < p) where
@@ -89,32 +94,6 @@ module _ (a p q r : ℕ) (e : a ≡ suc p) (f : q ≡ p) (k : r < p) where
         excess-is p r k,
         excess-is (suc p) r (omega arith),
       ))
-
--- the double rotation, where w's near register is the larger
-double-near : (p r x y : ℕ) → y ≤ x → p ≤ x → r ≤ x
-    → 3 + (apart p x + (apart y r + apart (suc x) (over y r))) ≤ apart x y + (apart p (suc x) + apart (suc (suc x)) r)
-double-near p r x y hy hp hr =
-    let one = apart-sym p x in
-    let two = apart-is x p hp in
-    let three = apart-sym p (suc x) in
-    let four = apart-is (suc x) p (omega arith) in
-    let five = apart-is (suc (suc x)) r (omega arith) in
-    let six = apart-is x y hy in
-    elim (decLe r y) [
-      | yes le ↦
-          let e : over y r ≡ suc y = omega arith in
-          rw e (omega (arith, apart-is (suc x) (suc y) (omega arith), apart-is y r le))
-      | no gt ↦
-          let e : over y r ≡ suc r = omega arith in
-          rw e (omega (arith, apart-is (suc x) (suc r) (omega arith), apart-sym y r, apart-is r y (omega arith)))
-    ]
-
-apart-grows : (a b : ℕ) → b < a → apart (suc a) b ≡ apart a b + 1
-apart-grows a b h = omega (arith, apart-is a b (omega arith), apart-is (suc a) b (omega arith))
-
-pub double-apart : (a p q r x y : ℕ) → a ≡ suc q → q ≡ over x y → p < q → r < q
-    → 3 + (apart p x + (apart y r + apart (over p x) (over y r))) ≤ apart x y + (apart p q + apart a r)
-double-apart = doubled apart 1 3 apart-sym apart-grows double-near
 
 -- a propagation that raises a register by suc d, and so the local height by k
 rise : (o s a b h above d k : ℕ) → h ≡ a + suc d → over h b ≡ over a b + k → k ≤ suc d

@@ -1,6 +1,6 @@
 -- What the worth is at most, by the largest carry and the largest balance (document 01, "The worth"). Assumes nothing.
-use Prim.Native.Nat.{ℕ, suc, _+_, _*_, _-_, _≤_, max}
-use mathlib.Core.Path.{_≡_, refl}
+use Prim.Native.Nat.{ℕ, suc, _+_, _*_, _-_, _≤_}
+use mathlib.Core.Path.{_≡_}
 use native.Mathlib.Omega.{arith}
 use native.Mathlib.Decide.{decLe}
 use native.Mathlib.Nat.{mul-le-mul}
@@ -41,8 +41,8 @@ module _ (d : Batch) (a b : ℕ) (l r : Tree) where
 
 -- every node of n weighs at most K
 module _ (n C B K : ℕ) (most : 6 * (C * (n + 1)) + 3 * B ≤ K) where
-  under-most : (T : Tree) (o above : ℕ) → n ≡ o + size T → carryOf above T ≤ C → largestCarry T ≤ C → largestBalance T ≤ B
-      → under T o above ≤ size T * K
+  under-most : (T : Tree) (o above : ℕ) → n ≡ o + size T → carryOf above T ≤ C → largestCarry T ≤ C
+      → largestBalance T ≤ B → under T o above ≤ size T * K
   unfolding under size carryOf
   under-most leaf o above e c m k = omega arith
   under-most (node d a b l r) o above e c m k =

@@ -1,16 +1,16 @@
 -- The paper's Lemma 2: where no carry is negative, no firing makes one negative. Assumes nothing.
-use Prim.Native.Nat.{ℕ, suc, _+_, _≤_, _<_, max}
-use mathlib.Core.Path.{_≡_, refl}
+use Prim.Native.Nat.{ℕ, _≤_}
+use mathlib.Core.Path.{_≡_}
 use mathlib.Core.Option.{some}
 use mathlib.Core.List.{List}
 use native.Mathlib.Omega.{arith}
-use Rattle.scope.specs.Tree.{Batch, Tree}
-use Rattle.scope.specs.Rules.{Pair, localHeight, guard}
+use Rattle.scope.specs.Tree.{Tree}
+use Rattle.scope.specs.Rules.{guard}
 use Rattle.scope.specs.declared.side.Side.{Side}
 use Rattle.scope.specs.declared.rule.Kind.{Kind}
 use Rattle.scope.specs.declared.rule.Rule.{Rule}
 use Rattle.tree.specs.Weight.{topHeight}
-use Rattle.tree.specs.Rewrite.{mk, fireAt}
+use Rattle.tree.specs.Rewrite.{fireAt}
 use Rattle.tree.specs.Step.{Step, propagates, leans, evens, doubles}
 use Rattle.tree.specs.Shape.{Covered}
 use Rattle.tree.proofs.Guards.{lean-says, even-says, double-says}

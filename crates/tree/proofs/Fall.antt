@@ -1,12 +1,12 @@
 -- Each accepted firing lowers the worth: at the top, at any place, over any list of attempts. Assumes nothing.
-use Prim.Native.Nat.{ℕ, suc, _+_, _*_, _≤_, _<_, max}
-use mathlib.Core.Path.{_≡_, refl, sym, _∙_, ap}
+use Prim.Native.Nat.{ℕ, suc, _+_, _*_, _≤_, _<_}
+use mathlib.Core.Path.{_≡_, refl}
 use mathlib.Core.Bool.{true}
 use mathlib.Core.Option.{Option, none, some}
 use mathlib.Core.List.{List, [], _∷_}
 use native.Mathlib.Omega.{arith}
-use Rattle.scope.specs.Tree.{Batch, Tree, leaf, node, size, over}
-use Rattle.scope.specs.Rules.{Pair, pair, localHeight, guard, turnedV, doubledU, doubledV}
+use Rattle.scope.specs.Tree.{Tree, leaf, node, size, over}
+use Rattle.scope.specs.Rules.{Pair, localHeight, guard, turnedV, doubledU, doubledV}
 use Rattle.scope.specs.Worth.{worthOf}
 use Rattle.scope.specs.declared.side.Side.{Side}
 use Rattle.scope.specs.declared.rule.Kind.{Kind}
@@ -16,8 +16,10 @@ use Rattle.tree.specs.Weight.{tilt, carry, topHeight, under, Scale, weig
 use Rattle.tree.specs.Measure.{taken, brought, Measure}
 use Rattle.tree.specs.Rewrite.{fireAt, Attempt, attempted, kept, counted, after, accepted}
 use Rattle.tree.proofs.Weight.{worth-under, worth-least}
-use Rattle.tree.proofs.Numbers.{tilt-sym, carry-none, carry-step, propagate-num, lean-tilt, even-tilt, double-tilt}
+use Rattle.tree.proofs.Tilt.{tilt-sym, carry-none, carry-step, propagate-num, lean-tilt, even-tilt, double-tilt}
 use Rattle.tree.proofs.Guards.{propagate-says, lean-says, even-says, double-says}
+use Rattle.tree.specs.Shape.{Quiet}
+use Rattle.tree.proofs.Steps.{none-there}
 use Rattle.tree.proofs.Falls.{falls}
 
 -- the scale of the worth
@@ -98,3 +100,7 @@ accepted-bound (x ∷ xs) T =
       one (attempted x T) T (worth-falls (x .way) (x .rule) T),
       accepted-bound xs (kept (attempted x T) T),
     )
+
+-- and where the worth is spent, no guard holds
+pub spent-quiet : (T : Tree) → worthOf T ≡ 0 → Quiet T
+spent-quiet T z way r = none-there (fireAt way r T) (λ T′ e. omega (arith, worth-falls way r T T′ e))

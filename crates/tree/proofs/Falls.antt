@@ -1,18 +1,18 @@
 -- Any measure that falls by what a firing takes and brings falls at every firing, anywhere. Assumes nothing.
-use Prim.Native.Nat.{ℕ, suc, _+_, max}
+use Prim.Native.Nat.{ℕ, suc, _+_}
 use mathlib.Core.Path.{_≡_}
 use mathlib.Core.Option.{some}
 use mathlib.Core.List.{List}
 use native.Mathlib.Omega.{arith}
-use Rattle.scope.specs.Tree.{Batch, Tree, size}
-use Rattle.scope.specs.Rules.{Pair, localHeight, guard}
+use Rattle.scope.specs.Tree.{Tree, size}
+use Rattle.scope.specs.Rules.{guard}
 use Rattle.scope.specs.declared.side.Side.{Side}
 use Rattle.scope.specs.declared.rule.Kind.{Kind}
 use Rattle.scope.specs.declared.rule.Kind.the-variants.{Propagate, Lean, Even, Double}
 use Rattle.scope.specs.declared.rule.Rule.{Rule}
-use Rattle.tree.specs.Weight.{Scale, weigh, Fair}
-use Rattle.tree.specs.Measure.{taken, brought, Measure}
-use Rattle.tree.specs.Rewrite.{mk, fireAt}
+use Rattle.tree.specs.Weight.{Scale, weigh}
+use Rattle.tree.specs.Measure.{Measure}
+use Rattle.tree.specs.Rewrite.{fireAt}
 use Rattle.tree.specs.Step.{Step, propagates, leans, evens, doubles}
 use Rattle.tree.proofs.Guards.{lean-says, even-says, double-says}
 use Rattle.tree.proofs.Steps.{anywhere}

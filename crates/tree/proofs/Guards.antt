@@ -1,13 +1,14 @@
 -- What each guard says in numbers, and when it holds. Assumes nothing.
-use Prim.Native.Nat.{ℕ, suc, _+_, _≤_, _<_, max}
+use Prim.Native.Nat.{suc, _+_, _≤_, _<_}
 use mathlib.Core.Path.{_≡_, refl}
 use mathlib.Core.Logic.{_≢_}
-use mathlib.Core.Bool.{Bool, true, false, not, _&&_}
+use mathlib.Core.Bool.{Bool, true, _&&_}
 use native.Mathlib.Omega.{arith}
-use lib.Dec.{leb, ltb, eqb}
+use lib.Dec.{ltb, eqb}
 use borrow.Author.Tests.{eqb-true, eqb-false, leb-true, ltb-true, not-true, eq-eqb, ne-eqb, le-leb, lt-ltb}
-use Rattle.scope.specs.Rules.{Pair, localHeight, reliable, heavy, guard, highest, turnedV, doubledU, doubledV}
+use Rattle.scope.specs.Rules.{Pair, localHeight, reliable, heavy, guard, highest}
 use Rattle.scope.proofs.Bools.{and-l, and-r}
+use Rattle.scope.specs.declared.rule.Kind.{Kind}
 use Rattle.scope.specs.declared.rule.Kind.the-variants.{Propagate, Lean, Even, Double}
 
 three : (a b c : Bool) → (a && b && c) ≡ true → (a ≡ true) × (b ≡ true) × (c ≡ true)
@@ -57,3 +58,10 @@ module _ (v u w : Pair) where
 
     pub double-holds : u .near < u .far → u .far ≡ localHeight w → guard Double v u w ≡ true
     double-holds k f = simp (eq-eqb _ _ e, eq-eqb _ _ f, le-leb _ _ h, lt-ltb _ _ k)
+
+  -- only a propagation can be due too high: what a rotation works out is at most v's near register
+  pub rotation-height : (k : Kind) → (k ≡ Propagate → ⊥) → guard k v u w ≡ true → highest k v u w ≤ v .near
+  rotation-height Propagate ne g = absurd (ne refl)
+  rotation-height Lean ne g = omega (arith, lean-says g)
+  rotation-height Even ne g = omega (arith, even-says g)
+  rotation-height Double ne g = omega (arith, double-says g)

@@ -1,10 +1,10 @@
 -- How high a balanced tree can be: at most 16 with 4,095 records. Assumes nothing.
-use Prim.Native.Nat.{ℕ, zero, suc, _+_, _≤_, _<_, max}
+use Prim.Native.Nat.{ℕ, zero, suc, _+_, _≤_}
 use mathlib.Core.Path.{_≡_, refl}
 use native.Mathlib.Omega.{arith}
 use native.Mathlib.Decide.{decLe, le-ind}
 use Rattle.scope.specs.Numbers.{mostSlots}
-use Rattle.scope.specs.Tree.{Batch, Tree, leaf, node, size, over, trueHeight}
+use Rattle.scope.specs.Tree.{Tree, leaf, node, size, over, trueHeight}
 use Rattle.tree.specs.Shape.{Relaxed, Balanced, Quiet, fewest}
 use Rattle.tree.proofs.Quiet.{quiet-balanced}
 

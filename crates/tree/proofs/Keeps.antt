@@ -1,5 +1,5 @@
--- Safety: a rewriting keeps the records in their order, hence every slot and key, and the zeros beside empty links. Assumes nothing.
-use Prim.Native.Nat.{ℕ, suc, _+_, _≤_}
+-- A rewriting keeps the records in order, hence slots and keys, and the zeros beside empty links. Assumes nothing.
+use Prim.Native.Nat.{ℕ, _+_, _≤_}
 use mathlib.Core.Path.{_≡_, refl, sym, _∙_, ap}
 use mathlib.Core.Option.{Option, none, some}
 use mathlib.Core.List.{List, [], _∷_, _++_}
@@ -12,7 +12,7 @@ use Rattle.scope.proofs.Bools.{and-r}
 use Rattle.scope.specs.declared.side.Side.{Side}
 use Rattle.scope.specs.declared.rule.Kind.{Kind}
 use Rattle.scope.specs.declared.rule.Rule.{Rule}
-use Rattle.tree.specs.Rewrite.{mk, Test, rewriteAt, within}
+use Rattle.tree.specs.Rewrite.{Test, rewriteAt, within, Attempt, attempted, kept, after}
 use Rattle.tree.specs.Step.{Step, propagates, leans, evens, doubles}
 use Rattle.tree.specs.Shape.{Beside, Relaxed, Low}
 use Rattle.tree.proofs.Steps.{anywhere}
@@ -56,6 +56,19 @@ low-kept limit way r T T′ e =
     moves (within limit) (λ a T. a ≤ limit)
     (λ k v u w x g h s d near far. omega (arith, leb-true (highest k v u w) limit (and-r (guard k v u w) _ g)))
     (λ s k T T′ x _ a h. h) (λ s d x near near′ far a h. h) way r T T′ e .each
+
+-- and over any list of attempts
+kept-keeps : (o : Option Tree) (T : Tree) → ((T′ : Tree) → o ≡ some T′ → Keeps T T′) → Keeps T (kept o T)
+kept-keeps none T f = record { records = refl; relaxed = λ h. h }
+kept-keeps (some T′) T f = f T′ refl
+
+pub after-keeps : (xs : List Attempt) (T : Tree) → Keeps T (after xs T)
+unfolding after
+after-keeps [] T = record { records = refl; relaxed = λ h. h }
+after-keeps (x ∷ xs) T =
+    let first = kept-keeps (attempted x T) T (keeps guard (x .way) (x .rule) T) in
+    let rest = after-keeps xs (kept (attempted x T) T) in
+    record { records = rest .records ∙ first .records; relaxed = λ h. rest .relaxed (first .relaxed h) }
 
 -- what the records in order decide: how often a slot stands in the tree, and how many nodes there are
 abbrev timesIn : ℕ → List Batch → ℕ

@@ -1,21 +1,27 @@
--- The laws of trees.
-pub mod Weight
-pub mod Steps
+-- The laws of trees, from the ground up.
+-- a node seen from a side, and firings as steps
 pub mod Sides
+pub mod Steps
+pub mod Guards
+-- what firings keep
 pub mod Moves
 pub mod Keeps
-pub mod Weigh
-pub mod Guards
-pub mod Double
-pub mod Numbers
-pub mod Falls
-pub mod Fall
+pub mod Order
+pub mod Covered
+-- the worth, and what it is at most
+pub mod Weight
 pub mod Bound
+-- what falls at every firing
+pub mod Weigh
+pub mod Falls
+pub mod Rotate
+pub mod Apart
+pub mod Tilt
+pub mod Fall
+pub mod Variant
+-- rest: balance and height
 pub mod Quiet
 pub mod Height
-pub mod Order
-pub mod Apart
-pub mod Variant
-pub mod Covered
+-- the paper's statements, and that the numbers in them matter
 pub mod Paper
 pub mod Sharp

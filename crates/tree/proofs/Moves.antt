@@ -1,5 +1,5 @@
--- What a step does to a statement on registers and the sons below them: only registers worked out anew need a look. Assumes nothing.
-use Prim.Native.Nat.{ℕ, suc, _≤_, max}
+-- A statement on registers and the sons below them: only those worked out anew need a look. Assumes nothing.
+use Prim.Native.Nat.{ℕ, _≤_}
 use mathlib.Core.Path.{_≡_}
 use mathlib.Core.Bool.{true}
 use mathlib.Core.Option.{some}
@@ -24,7 +24,8 @@ module _ (test : Test) (Q : ℕ → Tree → Type 0)
   abbrev P : ℕ → ℕ → Tree → Type 0
   P a b T = Q a T
 
-  turns : (s : Side) (dv du : Batch) (v u : Pair) (m n c : Tree) → Q (localHeight (turnedV v u)) (mk s dv (turnedV v u) n c)
+  turns : (s : Side) (dv du : Batch) (v u : Pair) (m n c : Tree)
+      → Q (localHeight (turnedV v u)) (mk s dv (turnedV v u) n c)
       → Each P (mk s dv v (mk s du u m n) c) → Each P (rotated s dv du v u m n c)
   turns s dv du v u m n c q h =
       let x = each-in s _ _ _ _ P h in
@@ -79,7 +80,8 @@ module _ (test : Test) (Q : ℕ → Tree → Type 0)
 
   -- so it holds everywhere after a rewriting at any place, where steps and nodes keep it of the register above them
   pub moves : ((s : Side) (k : Kind) (T T′ : Tree) → Step test s k T T′ → Each P T → (a : ℕ) → Q a T → Q a T′)
-      → ((s : Side) (d : Batch) (x : Pair) (near near′ far : Tree) (a : ℕ) → Q a (mk s d x near far) → Q a (mk s d x near′ far))
+      → ((s : Side) (d : Batch) (x : Pair) (near near′ far : Tree) (a : ℕ) → Q a (mk s d x near far)
+      → Q a (mk s d x near′ far))
       → (way : List Side) (r : Rule) (T T′ : Tree) → rewriteAt test way r T ≡ some T′ → Moves T T′
   moves top node =
       anywhere test Moves (λ s k T T′ x. record { each = step-moves s k T T′ x; top = top s k T T′ x })

@@ -1,6 +1,6 @@
 -- A tree is in order exactly if its records in order rise; so what keeps the records keeps the order. Assumes nothing.
 use Prim.Native.Nat.{ℕ, _<_}
-use mathlib.Core.Path.{_≡_, sym}
+use mathlib.Core.Path.{_≡_}
 use mathlib.Core.List.{List, [], _∷_, _++_}
 use native.Mathlib.Omega.{arith}
 use Rattle.scope.specs.Tree.{Batch, Tree, leaf, node, inOrder, Below, Above, Ordered}

@@ -1,15 +1,15 @@
 -- The paper's statements in its own order: Lemma 1, Lemma 2, Property 1 and Theorem 1. Assumes nothing.
-use Prim.Native.Nat.{ℕ, _+_, _*_, _≤_, _<_}
+use Prim.Native.Nat.{_+_, _*_, _≤_, _<_}
 use mathlib.Core.Path.{_≡_}
 use mathlib.Core.Option.{some}
 use mathlib.Core.List.{List}
 use native.Mathlib.Omega.{arith}
-use Rattle.scope.specs.Tree.{Batch, Tree, size, inOrder, Ordered}
+use Rattle.scope.specs.Tree.{Tree, size, inOrder, Ordered}
 use Rattle.scope.specs.Worth.{worthOf, largestCarry, largestBalance}
 use Rattle.scope.specs.declared.side.Side.{Side}
 use Rattle.scope.specs.declared.rule.Rule.{Rule}
 use Rattle.scope.specs.Rules.{guard}
-use Rattle.tree.specs.Rewrite.{fireAt, Attempt, accepted, after}
+use Rattle.tree.specs.Rewrite.{fireAt, Attempt, accepted}
 use Rattle.tree.specs.Shape.{Relaxed, Covered, Balanced, Quiet}
 use Rattle.tree.specs.Variant.{Less, variantOf}
 use Rattle.tree.proofs.Keeps.{keeps}
@@ -21,18 +21,18 @@ use Rattle.tree.proofs.Fall.{worth-falls, accepted-bound}
 use Rattle.tree.proofs.Bound.{worth-bound}
 
 -- a height-relaxed search tree
-pub record Hrs (T : Tree) : Type 0 where
+pub record HeightRelaxed (T : Tree) : Type 0 where
   pub ordered : Ordered T
   pub relaxed : Relaxed T
 
 -- LEMMA 1: a firing keeps such a tree and its records; and where no rule applies, the tree is balanced
-pub safety : (way : List Side) (r : Rule) (T T′ : Tree) → fireAt way r T ≡ some T′ → Hrs T
-    → Hrs T′ × (inOrder T′ ≡ inOrder T)
+pub safety : (way : List Side) (r : Rule) (T T′ : Tree) → fireAt way r T ≡ some T′ → HeightRelaxed T
+    → HeightRelaxed T′ × (inOrder T′ ≡ inOrder T)
 safety way r T T′ e h =
     let k = keeps guard way r T T′ e in
     (record { ordered = ordered-kept T T′ (k .records) (h .ordered); relaxed = k .relaxed (h .relaxed) }, k .records)
 
-pub rest : (T : Tree) → Hrs T → Quiet T → Balanced T
+pub rest : (T : Tree) → HeightRelaxed T → Quiet T → Balanced T
 rest T h = quiet-balanced T (h .relaxed)
 
 -- LEMMA 2: no carry becomes negative where none is

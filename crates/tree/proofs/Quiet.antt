@@ -1,17 +1,16 @@
--- A tree is quiet exactly if it is balanced with true registers; and one that is not quiet has a firing within any limit. Assumes nothing.
-use Prim.Native.Nat.{ℕ, suc, _+_, _≤_, _<_, max}
+-- Quiet is balanced with true registers; and where a tree is not quiet, some firing keeps the limit. Assumes nothing.
+use Prim.Native.Nat.{ℕ, _+_, _≤_, _<_}
 use mathlib.Core.Path.{_≡_, refl, sym, _∙_}
-use mathlib.Core.Logic.{_≢_}
-use mathlib.Core.Bool.{Bool, true, false, _&&_}
-use mathlib.Core.Option.{Option, none, some}
+use mathlib.Core.Bool.{Bool, true, _&&_}
+use mathlib.Core.Option.{none, some}
 use mathlib.Core.List.{List, [], _∷_}
 use native.Mathlib.Omega.{arith}
 use native.Mathlib.Decide.{decLe, decLt, ℕ-discrete}
 use lib.Dec.{leb}
 use borrow.Author.Tests.{le-leb}
 use Rattle.scope.specs.Numbers.{mostHeight}
-use Rattle.scope.specs.Tree.{Batch, Tree, leaf, node, size, over, trueHeight}
-use Rattle.scope.specs.Rules.{Pair, pair, localHeight, guard, highest, turnedV, doubledU, doubledV}
+use Rattle.scope.specs.Tree.{Batch, Tree, leaf, node, trueHeight}
+use Rattle.scope.specs.Rules.{Pair, pair, localHeight, guard, highest}
 use Rattle.scope.specs.declared.side.Side.{Side}
 use Rattle.scope.specs.declared.side.Side.the-variants.{Left, Right}
 use Rattle.scope.specs.declared.rule.Kind.{Kind}
@@ -21,10 +20,11 @@ use Rattle.scope.proofs.Bools.{and-l}
 use Rattle.tree.specs.Weight.{topHeight}
 use Rattle.tree.specs.Rewrite.{mk, rewriteAt, fireAt, within, acceptAt}
 use Rattle.tree.specs.Step.{Step, propagates, leans, evens, doubles}
-use Rattle.tree.specs.Shape.{Sides, Each, Beside, Relaxed, Balanced, Quiet}
-use Rattle.tree.proofs.Guards.{propagate-says, lean-says, even-says, double-says, propagate-holds, lean-holds, even-holds, double-holds}
-use Rattle.tree.proofs.Steps.{by-side, no-tree, steps, along, anywhere, inside}
-use Rattle.tree.proofs.Sides.{top-mk, true-mk, each-in, each-out}
+use Rattle.tree.specs.Shape.{Beside, Relaxed, Balanced, Quiet}
+use Rattle.tree.proofs.Guards.{propagate-says, lean-says, even-says, double-says}
+use Rattle.tree.proofs.Guards.{propagate-holds, lean-holds, even-holds, double-holds}
+use Rattle.tree.proofs.Steps.{by-side, no-tree, none-there, steps, along, anywhere, inside}
+use Rattle.tree.proofs.Sides.{top-mk, each-in}
 
 abbrev Q : ℕ → ℕ → Tree → Type 0
 Q a b T = (a ≡ trueHeight T) × (a ≤ b + 1)
@@ -51,13 +51,9 @@ balanced-still s k T T′ (evens dv du v u m n c g) h =
 balanced-still s k T T′ (doubles dv du dw v u w m e f c g) h =
     let x = each-in s _ _ _ _ Q h in omega (arith, double-says v u w g, x .near .1)
 
-nothing : (o : Option Tree) → ((T′ : Tree) → o ≡ some T′ → ⊥) → o ≡ none
-nothing none f = refl
-nothing (some T′) f = absurd (f T′ refl)
-
 pub balanced-quiet : (T : Tree) → Balanced T → Quiet T
 balanced-quiet T h way r =
-    nothing (fireAt way r T)
+    none-there (fireAt way r T)
     (λ T′ e. anywhere guard (λ T T′. Balanced T → ⊥) balanced-still
     (λ s d x near near′ far k h. k (each-in s _ _ _ _ Q h .inNear)) way r T T′ e h)
 
@@ -98,7 +94,8 @@ module _ (limit : ℕ) where
             | yes gt ↦ top-due s Lean _ _ (leans dv du v u m n c
                 (within-holds (guard Lean v u u) (highest Lean v u u) (lean-holds v u u e h gt) (omega arith)))
             | no le ↦ top-due s Even _ _ (evens dv du v u m n c
-                (within-holds (guard Even v u u) (highest Even v u u) (even-holds v u u e h (omega arith)) (omega arith)))
+                (within-holds (guard Even v u u) (highest Even v u u) (even-holds v u u e h (omega arith))
+                (omega arith)))
           ]
         ]
 
@@ -108,7 +105,8 @@ module _ (limit : ℕ) where
   unfolding trueHeight
   side s dv v near far =
       by-side s
-      (λ N. Beside (v .near) N → Balanced N → trueHeight N ≤ limit → Or (Q (v .near) (v .far) N) limit (mk s dv v N far))
+      (λ N. Beside (v .near) N → Balanced N → trueHeight N ≤ limit
+      → Or (Q (v .near) (v .far) N) limit (mk s dv v N far))
       near
       (λ b _ _. held (omega arith))
       (λ du u m n _ i l.
@@ -132,7 +130,8 @@ module _ (limit : ℕ) where
   half : (s : Side) (d : Batch) (x : Pair) (near far : Tree) → Beside (x .near) near → trueHeight near ≤ limit
       → Or (Balanced near) limit near → Or (Q (x .near) (x .far) near × Balanced near) limit (mk s d x near far)
   half s d x near far b l (held i) = both (λ q i. (q, i)) (side s d x near far b i l) (held i)
-  half s d x near far b l (due way r N e) = due (s ∷ way) r (mk s d x N far) (inside (within limit) way r s d x near N far e)
+  half s d x near far b l (due way r N e) =
+      due (s ∷ way) r (mk s d x N far) (inside (within limit) way r s d x near N far e)
 
   -- from the leaves up: a tree is balanced, or somewhere a firing is due
   settle : (T : Tree) → Relaxed T → trueHeight T ≤ limit → Or (Balanced T) limit T
@@ -166,6 +165,15 @@ quiet-balanced T h quiet =
       | due way r T′ e ↦ no-tree (sym (quiet way r) ∙ accepted-fires (trueHeight T) way r T T′ e)
     ]
 
+-- TIDYING CANNOT GET STUCK: a tree in which no firing would be accepted is quiet
+pub stuck-quiet : (T : Tree) → Relaxed T → trueHeight T ≤ mostHeight
+    → ((way : List Side) (r : Rule) → acceptAt way r T ≡ none) → Quiet T
+stuck-quiet T h l stuck =
+    elim (settle mostHeight T h l) [
+      | held i ↦ balanced-quiet T i
+      | due way r T′ e ↦ no-tree (sym (stuck way r) ∙ e)
+    ]
+
 -- a firing that a table accepts: where, by which rule, and what comes of it
 pub record Accepts (T : Tree) : Type 0 where
   pub way : List Side
@@ -173,7 +181,7 @@ pub record Accepts (T : Tree) : Type 0 where
   pub tree : Tree
   pub is : acceptAt way rule T ≡ some tree
 
--- TIDYING CANNOT GET STUCK: where any guard holds, some firing writes no height above the limit
+-- where any guard holds, here is one
 pub never-stuck : (T : Tree) → Relaxed T → trueHeight T ≤ mostHeight → (way : List Side) (r : Rule) (T′ : Tree)
     → fireAt way r T ≡ some T′ → Accepts T
 never-stuck T h l way r T′ e =

@@ -1,22 +1,21 @@
--- The numbers matter: 7 for the worth's 6, all nodes for those outside, or 15 for the height 16 would be wrong. Assumes nothing.
-use Prim.Native.Nat.{ℕ, zero, suc, _+_, _*_, _-_, _≤_, _<_, max}
+-- The numbers matter: 7 for 6, all nodes for those outside, or 15 for 16 would be wrong. Assumes nothing.
+use Prim.Native.Nat.{ℕ, zero, suc, _+_, _*_, _-_, _≤_, _<_}
 use mathlib.Core.Path.{_≡_, refl}
-use mathlib.Core.Option.{Option, none, some}
+use mathlib.Core.Option.{some}
 use mathlib.Core.List.{List, [], _∷_}
 use native.Mathlib.Omega.{arith}
-use Rattle.scope.specs.Tree.{Batch, Tree, leaf, node, size, over, trueHeight, Above, Below, Ordered}
-use Rattle.scope.specs.Worth.{negOf, posOf, NEG, POS, BAL, RBAL, worthOf}
-use Rattle.scope.specs.Rules.{guard}
+use Rattle.scope.specs.Tree.{Batch, Tree, leaf, node, size, trueHeight, Above, Below, Ordered}
+use Rattle.scope.specs.Worth.{negOf, posOf, NEG, POS, BAL, RBAL}
 use Rattle.scope.specs.declared.side.Side.{Side}
-use Rattle.scope.specs.declared.side.Side.the-variants.{Left, Right}
+use Rattle.scope.specs.declared.side.Side.the-variants.{Left}
 use Rattle.scope.specs.declared.rule.Kind.{Kind}
-use Rattle.scope.specs.declared.rule.Kind.the-variants.{Propagate, Lean, Even, Double}
+use Rattle.scope.specs.declared.rule.Kind.the-variants.{Propagate, Lean}
 use Rattle.scope.specs.declared.rule.Rule.{Rule}
 use Rattle.tree.specs.Weight.{topHeight, Scale, weigh}
 use Rattle.tree.specs.Rewrite.{fireAt, rewriteTop, rewriteAt}
 use Rattle.tree.specs.Shape.{Beside, Relaxed, Balanced, Quiet, fewest}
 use Rattle.tree.proofs.Quiet.{balanced-quiet}
-use Rattle.tree.proofs.Paper.{Hrs}
+use Rattle.tree.proofs.Paper.{HeightRelaxed}
 
 -- every accepted firing lowers a number
 abbrev Variant : (Tree → ℕ) → Type 0
@@ -147,7 +146,7 @@ relaxed (node d a b l r) h =
     beside a (node d x y p q) e = tt
 
 -- 2,583 records in a quiet tree of height 16
-pub sixteen : (T : Tree) × Hrs T × Quiet T × (size T ≡ 2583) × (trueHeight T ≡ 16)
+pub sixteen : (T : Tree) × HeightRelaxed T × Quiet T × (size T ≡ 2583) × (trueHeight T ≡ 16)
 unfolding fewest
 sixteen =
     let x = sparse-is 16 0 in (

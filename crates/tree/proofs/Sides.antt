@@ -1,9 +1,9 @@
--- A node seen from either side: its size, heights, records and what holds at it. The sides are told apart here and nowhere else. Assumes nothing.
-use Prim.Native.Nat.{ℕ, suc, _+_, _≤_, max}
-use mathlib.Core.Path.{_≡_, refl, sym}
+-- A node seen from either side: size, heights, records, what holds at it; the sides differ only here. Assumes nothing.
+use Prim.Native.Nat.{ℕ, suc, _+_}
+use mathlib.Core.Path.{_≡_, refl}
 use mathlib.Core.List.{List, _∷_, _++_, append-assoc}
 use native.Mathlib.Omega.{arith}
-use Rattle.scope.specs.Tree.{Batch, Tree, leaf, node, size, inOrder, over, trueHeight}
+use Rattle.scope.specs.Tree.{Batch, Tree, size, inOrder, over, trueHeight}
 use Rattle.scope.specs.Rules.{Pair, localHeight}
 use Rattle.scope.specs.declared.side.Side.{Side}
 use Rattle.scope.specs.declared.side.Side.the-variants.{Left, Right}

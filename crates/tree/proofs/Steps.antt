@@ -1,6 +1,6 @@
 -- A rewriting that comes out is a step, and a step comes out; at any place, by one induction. Assumes nothing.
 use Prim.Native.Nat.{ℕ}
-use mathlib.Core.Path.{_≡_, refl, sym, _∙_, ap}
+use mathlib.Core.Path.{_≡_, refl}
 use mathlib.Core.Bool.{Bool, true, false}
 use mathlib.Core.Option.{Option, none, some}
 use mathlib.Core.List.{List, [], _∷_}
@@ -12,11 +12,15 @@ use Rattle.scope.specs.declared.side.Side.the-variants.{Left, Right}
 use Rattle.scope.specs.declared.rule.Kind.{Kind}
 use Rattle.scope.specs.declared.rule.Kind.the-variants.{Propagate, Lean, Even, Double}
 use Rattle.scope.specs.declared.rule.Rule.{Rule}
-use Rattle.tree.specs.Rewrite.{mk, onTop, propagated, rotated, doubled, when, Test, act, hung, rewriteTop, rewriteAt}
+use Rattle.tree.specs.Rewrite.{mk, onTop, when, Test, act, hung, rewriteTop, rewriteAt}
 use Rattle.tree.specs.Step.{Step, propagates, leans, evens, doubles}
 
 pub no-tree {ℓ} : {P : Type ℓ} {T : Tree} → none ≡ some T → P
 no-tree {T = T} e = let z : _≡_ {A = ℕ} 0 1 = cc in absurd (omega arith)
+
+pub none-there : (o : Option Tree) → ((T : Tree) → o ≡ some T → ⊥) → o ≡ none
+none-there none f = refl
+none-there (some T) f = absurd (f T refl)
 
 -- every tree is no node, or a node seen from a side
 pub by-side {ℓ} : (s : Side) (P : Tree → Type ℓ) (T : Tree) → P leaf
@@ -26,7 +30,8 @@ by-side Left P (node d a b l r) z f = f d (pair a b) l r
 by-side Right P (node d a b l r) z f = f d (pair b a) r l
 
 -- what comes of a tree comes of its top
-on-top : (s : Side) (T T′ : Tree) (f : Batch → Pair → Tree → Tree → Option Tree) → onTop s T f ≡ some T′ → (P : Tree → Type 0)
+on-top : (s : Side) (T T′ : Tree) (f : Batch → Pair → Tree → Tree → Option Tree)
+    → onTop s T f ≡ some T′ → (P : Tree → Type 0)
     → ((d : Batch) (x : Pair) (near far : Tree) → f d x near far ≡ some T′ → P (mk s d x near far)) → P T
 on-top s leaf T′ f e P k = no-tree e
 on-top Left (node d a b l r) T′ f e P k = k d (pair a b) l r e
@@ -72,7 +77,8 @@ module _ (test : Test) where
   unfolding rewriteTop
   steps r T T′ x = steps-act (r .kind) (r .side) T T′ x
 
-  hung-is : (s : Side) (d : Batch) (x : Pair) (o : Option Tree) (far T′ : Tree) → hung s d x o far ≡ some T′ → (P : Tree → Type 0)
+  hung-is : (s : Side) (d : Batch) (x : Pair) (o : Option Tree) (far T′ : Tree)
+      → hung s d x o far ≡ some T′ → (P : Tree → Type 0)
       → ((near : Tree) → o ≡ some near → P (mk s d x near far)) → P T′
   hung-is s d x none far T′ e P k = no-tree e
   hung-is s d x (some near) far T′ e P k = let q : mk s d x near far ≡ T′ = cc in rw (← q) (k near refl)

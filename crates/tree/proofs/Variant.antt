@@ -1,25 +1,26 @@
 -- The paper's Property 1: (NEG, 2 POS + BAL, RBAL) falls in the lexicographic order at every firing. Assumes nothing.
-use Prim.Native.Nat.{ℕ, suc, _+_, _*_, _-_, _≤_, _<_, max}
-use mathlib.Core.Path.{_≡_, refl, sym, _∙_, ap}
-use mathlib.Core.Logic.{_≢_}
+use Prim.Native.Nat.{ℕ, suc, _+_, _*_, _-_, _≤_, _<_}
+use mathlib.Core.Path.{_≡_, refl, sym, ap}
 use mathlib.Core.Bool.{true}
 use mathlib.Core.Option.{some}
 use mathlib.Core.List.{List}
 use native.Mathlib.Omega.{arith}
-use native.Mathlib.Decide.{decLe, decLt}
+use native.Mathlib.Decide.{decLt}
 use native.Mathlib.Numerals.{add-one}
-use Rattle.scope.specs.Tree.{Batch, Tree, leaf, node, size, over}
-use Rattle.scope.specs.Worth.{gap, negOf, posOf, NEG, POS, BAL, RBAL}
-use Rattle.scope.specs.Rules.{Pair, pair, localHeight, guard, turnedV, doubledU, doubledV}
+use Rattle.scope.specs.Tree.{Tree, leaf, node, size, over}
+use Rattle.scope.specs.Worth.{negOf, posOf, NEG, POS, BAL, RBAL}
+use Rattle.scope.specs.Rules.{Pair, localHeight, guard, turnedV, doubledU, doubledV}
 use Rattle.scope.specs.declared.side.Side.{Side}
 use Rattle.scope.specs.declared.rule.Kind.{Kind}
 use Rattle.scope.specs.declared.rule.Kind.the-variants.{Propagate, Lean, Even, Double}
 use Rattle.scope.specs.declared.rule.Rule.{Rule}
-use Rattle.tree.specs.Weight.{topHeight, Scale, weigh, Fair}
-use Rattle.tree.specs.Variant.{Triple, Less, first, second, third, variantOf, short, long, apart, excess, negative, mixed, uneven, triple}
+use Rattle.tree.specs.Weight.{topHeight, weigh, Fair}
+use Rattle.tree.specs.Variant.{Triple, Less, first, second, third, variantOf}
+use Rattle.tree.specs.Variant.{short, long, apart, excess, negative, mixed, uneven, triple}
 use Rattle.tree.specs.Measure.{taken, brought, Measure}
 use Rattle.tree.specs.Rewrite.{fireAt}
-use Rattle.tree.proofs.Apart.{short-mono, long-down, lean-apart, even-apart, even-excess, double-apart, rise-short, sink-long}
+use Rattle.tree.proofs.Apart.{short-mono, long-down, rise-short, sink-long}
+use Rattle.tree.proofs.Apart.{lean-apart, even-apart, even-excess, double-apart}
 use Rattle.tree.proofs.Guards.{propagate-says, lean-says, even-says, double-says}
 use Rattle.tree.proofs.Falls.{weights, falls}
 
@@ -106,7 +107,11 @@ negative-is leaf n o above e = refl
 negative-is (node d a b l r) n o above e =
     let f : n - suc (size l + size r) ≡ o = omega arith in
     rw f
-    (omega (arith, negative-is l n (o + suc (size r)) a (omega arith), negative-is r n (o + suc (size l)) b (omega arith)))
+    (omega (
+      arith,
+      negative-is l n (o + suc (size r)) a (omega arith),
+      negative-is r n (o + suc (size l)) b (omega arith),
+    ))
 
 mixed-is : (T : Tree) (o above : ℕ) → weigh mixed T o above ≡ 2 * posOf above T + (2 * POS T + BAL T)
 unfolding weigh posOf POS BAL long apart

@@ -1,10 +1,10 @@
--- What the actions do to a tree's weight, by any scale: only the carries and balances of v, u and w change. Assumes nothing.
-use Prim.Native.Nat.{ℕ, suc, _+_, _*_, max}
-use mathlib.Core.Path.{_≡_, refl, sym, ap}
+-- What the actions do to a weight by any scale: only v's, u's and w's carries and balances change. Assumes nothing.
+use Prim.Native.Nat.{ℕ, suc, _+_}
+use mathlib.Core.Path.{_≡_, refl, ap}
 use native.Mathlib.Omega.{arith}
 use native.Mathlib.Nat.{max-comm}
-use Rattle.scope.specs.Tree.{Batch, Tree, leaf, node, size, over}
-use Rattle.scope.specs.Rules.{Pair, pair, localHeight, turnedV, doubledU, doubledV}
+use Rattle.scope.specs.Tree.{Batch, Tree, size}
+use Rattle.scope.specs.Rules.{Pair, localHeight, turnedV, doubledU, doubledV}
 use Rattle.scope.specs.declared.side.Side.{Side}
 use Rattle.scope.specs.declared.side.Side.the-variants.{Left, Right}
 use Rattle.scope.specs.declared.rule.Kind.the-variants.{Propagate, Lean, Double}

@@ -1,10 +1,10 @@
 -- The weight that hands the nodes outside down is the worth of the four sums. Assumes nothing.
-use Prim.Native.Nat.{ℕ, suc, _+_, _*_, _-_, _≤_, max}
+use Prim.Native.Nat.{ℕ, suc, _+_, _*_, _-_, _≤_}
 use mathlib.Core.Path.{_≡_, refl}
 use native.Mathlib.Omega.{arith}
 use native.Mathlib.Nat.{zero-add}
 use Rattle.scope.specs.Tree.{Batch, Tree, leaf, node, size, over}
-use Rattle.scope.specs.Worth.{gap, negOf, posOf, NEG, POS, BAL, RBAL, worthOf}
+use Rattle.scope.specs.Worth.{negOf, posOf, NEG, POS, BAL, RBAL, worthOf}
 use Rattle.tree.specs.Weight.{tilt, carry, topHeight, under}
 
 -- under a register, with o nodes outside: the top's own carry and the four sums below it
@@ -15,7 +15,11 @@ under-sums leaf n o above e = refl
 under-sums (node d a b l r) n o above e =
     let f : n - suc (size l + size r) ≡ o = omega arith in
     rw f
-    (omega (arith, under-sums l n (o + suc (size r)) a (omega arith), under-sums r n (o + suc (size l)) b (omega arith)))
+    (omega (
+      arith,
+      under-sums l n (o + suc (size r)) a (omega arith),
+      under-sums r n (o + suc (size l)) b (omega arith),
+    ))
 
 no-carry : (T : Tree) → negOf (size T) (topHeight T) T + posOf (topHeight T) T ≡ 0
 unfolding negOf posOf topHeight

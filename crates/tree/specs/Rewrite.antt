@@ -1,5 +1,5 @@
--- The eight rules on trees, each stated once for both sides: at the top of a tree, at any place, and one attempt after another.
-use Prim.Native.Nat.{ℕ, zero, suc, _+_}
+-- The eight rules on trees, each once for both sides: at the top, at any place, and one attempt after another.
+use Prim.Native.Nat.{ℕ, _+_}
 use mathlib.Core.Bool.{Bool, true, false, _&&_}
 use mathlib.Core.Option.{Option, none, some}
 use mathlib.Core.List.{List, [], _∷_}

@@ -3,7 +3,7 @@ use Prim.Native.Nat.{ℕ, zero, suc, _+_, _≤_}
 use mathlib.Core.Path.{_≡_}
 use mathlib.Core.Option.{none}
 use mathlib.Core.List.{List}
-use Rattle.scope.specs.Tree.{Batch, Tree, leaf, node, trueHeight}
+use Rattle.scope.specs.Tree.{Tree, leaf, node, trueHeight}
 use Rattle.scope.specs.declared.side.Side.{Side}
 use Rattle.scope.specs.declared.rule.Rule.{Rule}
 use Rattle.tree.specs.Weight.{topHeight}

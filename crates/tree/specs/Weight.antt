@@ -1,7 +1,7 @@
--- The worth as one recursive weight: the number of nodes outside is handed down, where the four sums take it from the whole.
+-- The worth as one recursive weight, which hands the number of nodes outside down the tree.
 use Prim.Native.Nat.{ℕ, suc, _+_, _*_, _-_}
 use mathlib.Core.Path.{_≡_}
-use Rattle.scope.specs.Tree.{Batch, Tree, leaf, node, size, over}
+use Rattle.scope.specs.Tree.{Tree, leaf, node, size, over}
 use Rattle.scope.specs.Worth.{gap}
 
 -- what an apparent balance weighs

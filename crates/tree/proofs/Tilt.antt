@@ -1,5 +1,5 @@
 -- The arithmetic of a firing: how the weights of balances and carries move. Assumes nothing.
-use Prim.Native.Nat.{ℕ, suc, _+_, _*_, _-_, _≤_, _<_, max}
+use Prim.Native.Nat.{ℕ, suc, _+_, _*_, _-_, _≤_, _<_}
 use mathlib.Core.Path.{_≡_, refl}
 use mathlib.Core.Logic.{_≢_}
 use native.Mathlib.Omega.{arith}
@@ -8,7 +8,9 @@ use native.Mathlib.Decide.{decLe, decLt}
 use native.Mathlib.Nat.{mul-le-mul-left}
 use Rattle.scope.specs.Tree.{over}
 use Rattle.tree.specs.Weight.{tilt, carry}
-use Rattle.tree.proofs.Double.{doubled}
+use Rattle.tree.specs.Variant.{apart, excess}
+use Rattle.tree.proofs.Rotate.{Grows, lean, double}
+use Rattle.tree.proofs.Apart.{even-apart, even-excess}
 
 -- what a balance weighs: exactly, at most, and how it moves. `tilt` stays shut elsewhere, and is an atom to omega
 pub tilt-sym : (a b : ℕ) → tilt a b ≡ tilt b a
@@ -53,63 +55,33 @@ pub carry-down : (o above h d : ℕ) → carry o above h ≤ carry o above (h + 
 unfolding carry
 carry-down o above h d = omega (arith, mul-le-mul-left o (let x : h - above ≤ (h + d) - above = omega arith in x))
 
--- the three rotations: a and r are v's registers, p and q u's, x and y w's
+-- the rotations: a and r are v's registers, p and q u's, x and y w's
+grows : Grows tilt 3 1
+grows = record { even = tilt-sym; next = tilt-suc; is = tilt-gt; most = tilt-ub; less = tilt-mono }
+
 pub lean-tilt : (a p q r : ℕ) → a ≡ suc p → q < p → r < p → 7 + (tilt q r + tilt p (over q r)) ≤ tilt p q + tilt a r
-lean-tilt a p q r f h k =
-    rw f
-    (elim (decLe r q) [
-      | yes le ↦
-          let e : over q r ≡ suc q = omega arith in
-          rw e (omega (arith, tilt-ub q r le, tilt-ub p (suc q) h, tilt-gt p q h, tilt-gt (suc p) r (omega arith)))
-      | no gt ↦
-          let e : over q r ≡ suc r = omega arith in
-          rw e
-          (omega (
-            arith,
-            tilt-sym q r,
-            tilt-ub r q (omega arith),
-            tilt-ub p (suc r) k,
-            tilt-gt p q h,
-            tilt-gt (suc p) r (omega arith),
-          ))
-    ])
-
-pub even-tilt : (a p q r : ℕ) → a ≡ suc p → q ≡ p → r < p → suc (tilt q r + tilt p (over q r)) ≤ tilt p q + tilt a r
-even-tilt a p q r f g k =
-    let e : over p r ≡ suc p = omega arith in
-    rw (f, g, e)
-    (omega (
-      arith,
-      tilt-sym p (suc p),
-      tilt-gt (suc p) p (omega arith),
-      tilt-gt p r k,
-      tilt-gt (suc p) r (omega arith),
-    ))
-
--- the double rotation, where w's near register is the larger
-double-near : (p r x y : ℕ) → y ≤ x → p ≤ x → r ≤ x
-    → 7 + (tilt p x + (tilt y r + tilt (suc x) (over y r))) ≤ tilt x y + (tilt p (suc x) + tilt (suc (suc x)) r)
-double-near p r x y hy hp hr =
-    let even = tilt-sym p x in
-    let less = tilt-ub x p hp in
-    let one = tilt-sym p (suc x) in
-    let two = tilt-gt (suc x) p (omega arith) in
-    let three = tilt-gt (suc (suc x)) r (omega arith) in
-    elim (decLe r y) [
-      | yes le ↦
-          let e : over y r ≡ suc y = omega arith in
-          rw e (omega (arith, tilt-suc x y, tilt-ub y r le))
-      | no gt ↦
-          let e : over y r ≡ suc r = omega arith in
-          rw e (omega (arith, tilt-suc x r, tilt-ub x r hr, tilt-sym y r, tilt-mono x r y (omega arith) hr))
-    ]
-
-tilt-grows : (a b : ℕ) → b < a → tilt (suc a) b ≡ tilt a b + 3
-tilt-grows a b h = omega (arith, tilt-gt a b h, tilt-gt (suc a) b (omega arith))
+lean-tilt = lean tilt 3 1 7 grows refl
 
 pub double-tilt : (a p q r x y : ℕ) → a ≡ suc q → q ≡ over x y → p < q → r < q
     → 7 + (tilt p x + (tilt y r + tilt (over p x) (over y r))) ≤ tilt x y + (tilt p q + tilt a r)
-double-tilt = doubled tilt 3 7 tilt-sym tilt-grows double-near
+double-tilt = double tilt 3 1 7 grows refl
+
+-- a tilt is twice the balance and its excess
+tilt-is : (a b : ℕ) → tilt a b ≡ 2 * apart a b + excess a b
+unfolding tilt apart excess
+tilt-is a b = refl
+
+pub even-tilt : (a p q r : ℕ) → a ≡ suc p → q ≡ p → r < p → suc (tilt q r + tilt p (over q r)) ≤ tilt p q + tilt a r
+even-tilt a p q r f g k =
+    omega (
+      arith,
+      tilt-is q r,
+      tilt-is p (over q r),
+      tilt-is p q,
+      tilt-is a r,
+      even-apart a p q r f g k,
+      even-excess a p q r f g k,
+    )
 
 -- a carry below 0, above 0, and none
 pub carry-neg : (o a d : ℕ) → carry o a (a + d) ≡ o * d
