@@ -22,6 +22,7 @@ pub mod Variant
 -- rest: balance and height
 pub mod Quiet
 pub mod Height
--- the paper's statements, and that the numbers in them matter
+-- the paper's statements, marked examples, and that the numbers matter
 pub mod Paper
+pub mod Marked
 pub mod Sharp

@@ -18,16 +18,13 @@ use Rattle.scope.specs.declared.rule.Kind.the-variants.{Propagate, Lean, Even, 
 use Rattle.scope.specs.declared.rule.Rule.{Rule}
 use Rattle.scope.proofs.Bools.{and-l}
 use Rattle.tree.specs.Weight.{topHeight}
-use Rattle.tree.specs.Rewrite.{mk, rewriteAt, fireAt, within, acceptAt}
+use Rattle.tree.specs.Rewrite.{mk, ruleOn, rewriteAt, fireAt, within, acceptAt}
 use Rattle.tree.specs.Step.{Step, propagates, leans, evens, doubles}
-use Rattle.tree.specs.Shape.{Beside, Relaxed, Balanced, Quiet}
+use Rattle.tree.specs.Shape.{Beside, Relaxed, Level, Balanced, Quiet}
 use Rattle.tree.proofs.Guards.{propagate-says, lean-says, even-says, double-says}
 use Rattle.tree.proofs.Guards.{propagate-holds, lean-holds, even-holds, double-holds}
 use Rattle.tree.proofs.Steps.{by-side, no-tree, none-there, steps, along, anywhere, inside}
 use Rattle.tree.proofs.Sides.{top-mk, each-in}
-
-abbrev Q : ℕ → ℕ → Tree → Type 0
-Q a b T = (a ≡ trueHeight T) × (a ≤ b + 1)
 
 -- in a balanced tree the local height is the true one
 balanced-top : (T : Tree) → Balanced T → topHeight T ≡ trueHeight T
@@ -42,35 +39,32 @@ balanced-local s d x near far h = sym (top-mk s d x near far) ∙ balanced-top _
 -- a balanced tree is quiet: no step is there at the top, nor below it
 balanced-still : (s : Side) (k : Kind) (T T′ : Tree) → Step guard s k T T′ → Balanced T → ⊥
 balanced-still s k T T′ (propagates dv du v u m n c g) h =
-    let x = each-in s _ _ _ _ Q h in
+    let x = each-in s _ _ _ _ Level h in
     propagate-says v u u g (x .near .0 ∙ sym (balanced-local s du u m n (x .inNear)))
 balanced-still s k T T′ (leans dv du v u m n c g) h =
-    let x = each-in s _ _ _ _ Q h in omega (arith, lean-says v u u g, x .near .1)
+    let x = each-in s _ _ _ _ Level h in omega (arith, lean-says v u u g, x .near .1)
 balanced-still s k T T′ (evens dv du v u m n c g) h =
-    let x = each-in s _ _ _ _ Q h in omega (arith, even-says v u u g, x .near .1)
+    let x = each-in s _ _ _ _ Level h in omega (arith, even-says v u u g, x .near .1)
 balanced-still s k T T′ (doubles dv du dw v u w m e f c g) h =
-    let x = each-in s _ _ _ _ Q h in omega (arith, double-says v u w g, x .near .1)
+    let x = each-in s _ _ _ _ Level h in omega (arith, double-says v u w g, x .near .1)
 
 pub balanced-quiet : (T : Tree) → Balanced T → Quiet T
 balanced-quiet T h way r =
     none-there (fireAt way r T)
     (λ T′ e. anywhere guard (λ T T′. Balanced T → ⊥) balanced-still
-    (λ s d x near near′ far k h. k (each-in s _ _ _ _ Q h .inNear)) way r T T′ e h)
+    (λ s d x near near′ far k h. k (each-in s _ _ _ _ Level h .inNear)) way r T T′ e h)
 
 -- either a statement holds, or some firing of the tree writes no height above the limit
 data Or (A : Type 0) (limit : ℕ) (T : Tree) : Type 0 where
   held : A → Or A limit T
   due : (way : List Side) (r : Rule) (T′ : Tree) → rewriteAt (within limit) way r T ≡ some T′ → Or A limit T
 
-abbrev rule : Kind → Side → Rule
-rule k s = record { kind = k; side = s }
-
 module _ (limit : ℕ) where
   within-holds : (g : Bool) (h : ℕ) → g ≡ true → h ≤ limit → (g && leb h limit) ≡ true
   within-holds g h e l = simp (e, le-leb h limit l)
 
   top-due : {A : Type 0} (s : Side) (k : Kind) (T T′ : Tree) → Step (within limit) s k T T′ → Or A limit T
-  top-due s k T T′ x = due [] (rule k s) T′ (unfold rewriteAt in steps (within limit) (rule k s) T T′ x)
+  top-due s k T T′ x = due [] (ruleOn k s) T′ (unfold rewriteAt in steps (within limit) (ruleOn k s) T T′ x)
 
   -- v is two higher on the near side, over a reliable u: one of the three rotations is due
   module _ {A : Type 0} (s : Side) (dv du : Batch) (v u : Pair) (m c : Tree) (e : v .near ≡ localHeight u)
@@ -101,17 +95,17 @@ module _ (limit : ℕ) where
 
   -- over a balanced near son: the near register is right and not two more than the far one, or a firing is due
   side : (s : Side) (dv : Batch) (v : Pair) (near far : Tree) → Beside (v .near) near → Balanced near
-      → trueHeight near ≤ limit → Or (Q (v .near) (v .far) near) limit (mk s dv v near far)
+      → trueHeight near ≤ limit → Or (Level (v .near) (v .far) near) limit (mk s dv v near far)
   unfolding trueHeight
   side s dv v near far =
       by-side s
       (λ N. Beside (v .near) N → Balanced N → trueHeight N ≤ limit
-      → Or (Q (v .near) (v .far) N) limit (mk s dv v N far))
+      → Or (Level (v .near) (v .far) N) limit (mk s dv v N far))
       near
       (λ b _ _. held (omega arith))
       (λ du u m n _ i l.
       let t = balanced-local s du u m n i in
-      let y = each-in s _ _ _ _ Q i in
+      let y = each-in s _ _ _ _ Level i in
       elim (ℕ-discrete (v .near) (localHeight u)) [
         | no ne ↦ top-due s Propagate _ _ (propagates dv du v u m n far
             (within-holds (guard Propagate v u u) (highest Propagate v u u) (propagate-holds v u u ne) (omega arith)))
@@ -128,7 +122,7 @@ module _ (limit : ℕ) where
 
   -- one side of a node, by what is known of the son there
   half : (s : Side) (d : Batch) (x : Pair) (near far : Tree) → Beside (x .near) near → trueHeight near ≤ limit
-      → Or (Balanced near) limit near → Or (Q (x .near) (x .far) near × Balanced near) limit (mk s d x near far)
+      → Or (Balanced near) limit near → Or (Level (x .near) (x .far) near × Balanced near) limit (mk s d x near far)
   half s d x near far b l (held i) = both (λ q i. (q, i)) (side s d x near far b i l) (held i)
   half s d x near far b l (due way r N e) =
       due (s ∷ way) r (mk s d x N far) (inside (within limit) way r s d x near N far e)

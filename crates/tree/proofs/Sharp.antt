@@ -4,29 +4,22 @@ use mathlib.Core.Path.{_≡_, refl}
 use mathlib.Core.Option.{some}
 use mathlib.Core.List.{List, [], _∷_}
 use native.Mathlib.Omega.{arith}
-use Rattle.scope.specs.Tree.{Batch, Tree, leaf, node, size, trueHeight, Above, Below, Ordered}
+use Rattle.scope.specs.Tree.{Tree, leaf, node, size, trueHeight, Above, Below, Ordered}
 use Rattle.scope.specs.Worth.{negOf, posOf, NEG, POS, BAL, RBAL}
 use Rattle.scope.specs.declared.side.Side.{Side}
 use Rattle.scope.specs.declared.side.Side.the-variants.{Left}
-use Rattle.scope.specs.declared.rule.Kind.{Kind}
 use Rattle.scope.specs.declared.rule.Kind.the-variants.{Propagate, Lean}
 use Rattle.scope.specs.declared.rule.Rule.{Rule}
 use Rattle.tree.specs.Weight.{topHeight, Scale, weigh}
-use Rattle.tree.specs.Rewrite.{fireAt, rewriteTop, rewriteAt}
+use Rattle.tree.specs.Rewrite.{ruleOn, fireAt, rewriteTop, rewriteAt}
 use Rattle.tree.specs.Shape.{Beside, Relaxed, Balanced, Quiet, fewest}
 use Rattle.tree.proofs.Quiet.{balanced-quiet}
+use Rattle.tree.proofs.Marked.{batch}
 use Rattle.tree.proofs.Paper.{HeightRelaxed}
 
 -- every accepted firing lowers a number
 abbrev Variant : (Tree → ℕ) → Type 0
 Variant f = (way : List Side) (r : Rule) (T T′ : Tree) → fireAt way r T ≡ some T′ → f T′ < f T
-
--- a record in slot k
-abbrev batch : ℕ → Batch
-batch k = record { slot = k; key = k; pieces = 1; state = 1 }
-
-abbrev rule : Kind → Side → Rule
-rule k s = record { kind = k; side = s }
 
 -- carries taken seven times: a chain of four, all registers right, whose middle rotates
 abbrev seven : Tree → ℕ
@@ -38,7 +31,7 @@ chain = node (batch 4) 3 0 (node (batch 3) 2 0 (node (batch 2) 1 0 (node (batch 
 abbrev turned : Tree
 turned = node (batch 4) 3 0 (node (batch 2) 1 1 (node (batch 1) 0 0 leaf leaf) (node (batch 3) 0 0 leaf leaf)) leaf
 
-chain-turns : fireAt (Left ∷ []) (rule Lean Left) chain ≡ some turned
+chain-turns : fireAt (Left ∷ []) (ruleOn Lean Left) chain ≡ some turned
 unfolding rewriteAt rewriteTop
 chain-turns = refl
 
@@ -47,7 +40,7 @@ unfolding NEG POS BAL RBAL negOf posOf size
 seven-stays = refl
 
 pub not-seven : Variant seven → ⊥
-not-seven v = omega (arith, v (Left ∷ []) (rule Lean Left) chain turned chain-turns, seven-stays)
+not-seven v = omega (arith, v (Left ∷ []) (ruleOn Lean Left) chain turned chain-turns, seven-stays)
 
 -- all n nodes for those outside: three posted one below the other, where the lowest height goes up one node
 abbrev lacking : Scale
@@ -59,7 +52,7 @@ whole T = 6 * (size T * weigh lacking T 0 (topHeight T) + POS T) + 2 * BAL T + R
 abbrev posted : ℕ → Tree
 posted h = node (batch 3) 0 0 (node (batch 2) h 0 (node (batch 1) 0 0 leaf leaf) leaf) leaf
 
-posted-carries : fireAt (Left ∷ []) (rule Propagate Left) (posted 0) ≡ some (posted 1)
+posted-carries : fireAt (Left ∷ []) (ruleOn Propagate Left) (posted 0) ≡ some (posted 1)
 unfolding rewriteAt rewriteTop
 posted-carries = refl
 
@@ -68,7 +61,7 @@ unfolding POS BAL RBAL posOf size weigh topHeight
 whole-rises = refl
 
 pub not-whole : Variant whole → ⊥
-not-whole v = omega (arith, v (Left ∷ []) (rule Propagate Left) (posted 0) (posted 1) posted-carries, whole-rises)
+not-whole v = omega (arith, v (Left ∷ []) (ruleOn Propagate Left) (posted 0) (posted 1) posted-carries, whole-rises)
 
 -- the sparsest balanced tree of a height, with the keys from k + 1 on
 unfoldable sparse : ℕ → ℕ → Tree

@@ -41,6 +41,10 @@ abbrev pub when : Bool → Tree → Option Tree
 when true T = some T
 when false T = none
 
+-- a kind of rule on a side
+abbrev pub ruleOn : Kind → Side → Rule
+ruleOn k s = record { kind = k; side = s }
+
 -- a test of v, u and w by their registers; where a rule has no w, u stands for it
 abbrev pub Test : Type 0
 Test = Kind → Pair → Pair → Pair → Bool

@@ -35,12 +35,18 @@ abbrev pub Low : ℕ → Tree → Type 0
 Low limit = Each (λ a b T. a ≤ limit)
 
 -- no carry is negative
+abbrev pub Covers : ℕ → Tree → Type 0
+Covers a T = topHeight T ≤ a
+
 abbrev pub Covered : Tree → Type 0
-Covered = Each (λ a b T. topHeight T ≤ a)
+Covered = Each (λ a b T. Covers a T)
 
 -- each register is the true height, and no two sides differ by more than one
+abbrev pub Level : ℕ → ℕ → Tree → Type 0
+Level a b T = (a ≡ trueHeight T) × (a ≤ b + 1)
+
 abbrev pub Balanced : Tree → Type 0
-Balanced = Each (λ a b T. (a ≡ trueHeight T) × (a ≤ b + 1))
+Balanced = Each Level
 
 -- no guard holds anywhere
 abbrev pub Quiet : Tree → Type 0
