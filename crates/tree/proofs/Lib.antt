@@ -3,6 +3,7 @@
 pub mod Sides
 pub mod Steps
 pub mod Guards
+pub mod Place
 -- what firings keep
 pub mod Moves
 pub mod Keeps

@@ -3,7 +3,7 @@ use Prim.Native.Nat.{ℕ, suc, _+_}
 use mathlib.Core.Path.{_≡_, refl}
 use mathlib.Core.List.{List, _∷_, _++_, append-assoc}
 use native.Mathlib.Omega.{arith}
-use Rattle.scope.specs.Tree.{Batch, Tree, size, inOrder, over, trueHeight}
+use Rattle.scope.specs.Tree.{Batch, Tree, size, inOrder, times, same, over, trueHeight}
 use Rattle.scope.specs.Rules.{Pair, localHeight}
 use Rattle.scope.specs.declared.side.Side.{Side}
 use Rattle.scope.specs.declared.side.Side.the-variants.{Left, Right}
@@ -25,6 +25,10 @@ module _ (s : Side) (d : Batch) (x : Pair) (near far : Tree) where
   pub size-mk : size (mk s d x near far) ≡ suc (size near + size far)
   unfolding size
   size-mk = elim s [ Left ↦ refl | Right ↦ omega arith ]
+
+  pub times-mk : (k : ℕ) → times k (mk s d x near far) ≡ same k (d .slot) + (times k near + times k far)
+  unfolding times
+  times-mk k = elim s [ Left ↦ refl | Right ↦ omega arith ]
 
   pub top-mk : topHeight (mk s d x near far) ≡ localHeight x
   unfolding topHeight

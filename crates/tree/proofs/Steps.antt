@@ -30,14 +30,14 @@ by-side Left P (node d a b l r) z f = f d (pair a b) l r
 by-side Right P (node d a b l r) z f = f d (pair b a) r l
 
 -- what comes of a tree comes of its top
-on-top : (s : Side) (T T′ : Tree) (f : Batch → Pair → Tree → Tree → Option Tree)
+pub on-top : (s : Side) (T T′ : Tree) (f : Batch → Pair → Tree → Tree → Option Tree)
     → onTop s T f ≡ some T′ → (P : Tree → Type 0)
     → ((d : Batch) (x : Pair) (near far : Tree) → f d x near far ≡ some T′ → P (mk s d x near far)) → P T
 on-top s leaf T′ f e P k = no-tree e
 on-top Left (node d a b l r) T′ f e P k = k d (pair a b) l r e
 on-top Right (node d a b l r) T′ f e P k = k d (pair b a) r l e
 
-top-is : (s : Side) (d : Batch) (x : Pair) (near far : Tree) (f : Batch → Pair → Tree → Tree → Option Tree)
+pub top-is : (s : Side) (d : Batch) (x : Pair) (near far : Tree) (f : Batch → Pair → Tree → Tree → Option Tree)
     → onTop s (mk s d x near far) f ≡ f d x near far
 top-is Left d x near far f = refl
 top-is Right d x near far f = refl

@@ -3,5 +3,6 @@ pub mod Weight
 pub mod Rewrite
 pub mod Measure
 pub mod Step
+pub mod Place
 pub mod Shape
 pub mod Variant
