@@ -10,6 +10,7 @@ pub mod Keeps
 pub mod Order
 pub mod Covered
 -- the worth, and what it is at most
+pub mod Sums
 pub mod Weight
 pub mod Bound
 -- what falls at every firing

@@ -8,7 +8,7 @@ use native.Mathlib.Omega.{arith}
 use native.Mathlib.Decide.{decLt}
 use native.Mathlib.Numerals.{add-one}
 use Rattle.scope.specs.Tree.{Tree, leaf, node, size, over}
-use Rattle.scope.specs.Worth.{negOf, posOf, NEG, POS, BAL, RBAL}
+use Rattle.scope.specs.Worth.{negOf, posOf, NEG, POS, BAL}
 use Rattle.scope.specs.Rules.{Pair, localHeight, guard, turnedV, doubledU, doubledV}
 use Rattle.scope.specs.declared.side.Side.{Side}
 use Rattle.scope.specs.declared.rule.Kind.{Kind}
@@ -21,6 +21,7 @@ use Rattle.tree.specs.Measure.{taken, brought, Measure}
 use Rattle.tree.specs.Rewrite.{fireAt}
 use Rattle.tree.proofs.Apart.{short-mono, long-down, rise-short, sink-long}
 use Rattle.tree.proofs.Apart.{lean-apart, even-apart, even-excess, double-apart}
+use Rattle.tree.proofs.Sums.{negative-is, mixed-is, uneven-is}
 use Rattle.tree.proofs.Guards.{propagate-says, lean-says, even-says, double-says}
 use Rattle.tree.proofs.Falls.{weights, falls}
 
@@ -99,31 +100,6 @@ variant-measure =
           (law negative fair-negative) (law mixed fair-mixed) (law uneven fair-uneven);
       local = lighter;
     }
-
--- the three weights are the paper's quantities, and the top's own carry
-negative-is : (T : Tree) (n o above : ℕ) → n ≡ o + size T → weigh negative T o above ≡ negOf n above T + NEG n T
-unfolding weigh size negOf NEG short
-negative-is leaf n o above e = refl
-negative-is (node d a b l r) n o above e =
-    let f : n - suc (size l + size r) ≡ o = omega arith in
-    rw f
-    (omega (
-      arith,
-      negative-is l n (o + suc (size r)) a (omega arith),
-      negative-is r n (o + suc (size l)) b (omega arith),
-    ))
-
-mixed-is : (T : Tree) (o above : ℕ) → weigh mixed T o above ≡ 2 * posOf above T + (2 * POS T + BAL T)
-unfolding weigh posOf POS BAL long apart
-mixed-is leaf o above = refl
-mixed-is (node d a b l r) o above =
-    omega (arith, mixed-is l (o + suc (size r)) a, mixed-is r (o + suc (size l)) b)
-
-uneven-is : (T : Tree) (o above : ℕ) → weigh uneven T o above ≡ RBAL T
-unfolding weigh RBAL excess
-uneven-is leaf o above = refl
-uneven-is (node d a b l r) o above =
-    omega (arith, uneven-is l (o + suc (size r)) a, uneven-is r (o + suc (size l)) b)
 
 -- nothing is outside the root, and its own local height leaves no carry
 no-outside : (T : Tree) (above : ℕ) → negOf (size T) above T ≡ 0

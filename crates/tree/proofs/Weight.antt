@@ -5,21 +5,22 @@ use native.Mathlib.Omega.{arith}
 use native.Mathlib.Nat.{zero-add}
 use Rattle.scope.specs.Tree.{Batch, Tree, leaf, node, size, over}
 use Rattle.scope.specs.Worth.{negOf, posOf, NEG, POS, BAL, RBAL, worthOf}
-use Rattle.tree.specs.Weight.{tilt, carry, topHeight, under}
+use Rattle.tree.specs.Weight.{tilt, carry, topHeight, under, weigh}
+use Rattle.tree.specs.Variant.{short, negative}
+use Rattle.tree.proofs.Sums.{negative-is}
+
+-- the negative carries as a weight, and the other sums
+under-negative : (T : Tree) (o above : ℕ)
+    → under T o above ≡ 6 * (weigh negative T o above + (posOf above T + POS T)) + 2 * BAL T + RBAL T
+unfolding under weigh posOf POS BAL RBAL tilt carry short
+under-negative leaf o above = refl
+under-negative (node d a b l r) o above =
+    omega (arith, under-negative l (o + suc (size r)) a, under-negative r (o + suc (size l)) b)
 
 -- under a register, with o nodes outside: the top's own carry and the four sums below it
 under-sums : (T : Tree) (n o above : ℕ) → n ≡ o + size T
     → under T o above ≡ 6 * (negOf n above T + posOf above T) + (6 * (NEG n T + POS T) + 2 * BAL T + RBAL T)
-unfolding under size negOf posOf NEG POS BAL RBAL tilt carry
-under-sums leaf n o above e = refl
-under-sums (node d a b l r) n o above e =
-    let f : n - suc (size l + size r) ≡ o = omega arith in
-    rw f
-    (omega (
-      arith,
-      under-sums l n (o + suc (size r)) a (omega arith),
-      under-sums r n (o + suc (size l)) b (omega arith),
-    ))
+under-sums T n o above e = omega (arith, under-negative T o above, negative-is T n o above e)
 
 no-carry : (T : Tree) → negOf (size T) (topHeight T) T + posOf (topHeight T) T ≡ 0
 unfolding negOf posOf topHeight
