@@ -1,0 +1,1 @@
+// The mathematics of the trees that words spell: definitions in specs/, laws in proofs/, and no function.
