@@ -6,7 +6,8 @@ use mathlib.Core.Option.{Option, none, some}
 use mathlib.Core.List.{List, [], _∷_}
 use native.Mathlib.Omega.{arith}
 use Rattle.scope.specs.Tree.{Tree, leaf, node, size, over}
-use Rattle.scope.specs.Rules.{Pair, localHeight, guard, turnedV, doubledU, doubledV}
+use Rattle.scope.specs.Rules.{localHeight, guard, turnedV, doubledU, doubledV}
+use Rattle.scope.specs.declared.rule.Pair.{Pair}
 use Rattle.scope.specs.Worth.{worthOf}
 use Rattle.scope.specs.declared.side.Side.{Side}
 use Rattle.scope.specs.declared.rule.Kind.{Kind}

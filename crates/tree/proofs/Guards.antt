@@ -6,7 +6,8 @@ use mathlib.Core.Bool.{Bool, true, _&&_}
 use native.Mathlib.Omega.{arith}
 use lib.Dec.{ltb, eqb}
 use borrow.Author.Tests.{eqb-true, eqb-false, leb-true, ltb-true, not-true, eq-eqb, ne-eqb, le-leb, lt-ltb}
-use Rattle.scope.specs.Rules.{Pair, localHeight, reliable, heavy, guard, highest}
+use Rattle.scope.specs.Rules.{localHeight, reliable, heavy, guard, highest}
+use Rattle.scope.specs.declared.rule.Pair.{Pair}
 use Rattle.scope.proofs.Bools.{and-l, and-r}
 use Rattle.scope.specs.declared.rule.Kind.{Kind}
 use Rattle.scope.specs.declared.rule.Kind.the-variants.{Propagate, Lean, Even, Double}

@@ -6,7 +6,8 @@ use mathlib.Core.Option.{some}
 use mathlib.Core.List.{List}
 use native.Mathlib.Omega.{arith}
 use Rattle.scope.specs.Tree.{Batch, Tree}
-use Rattle.scope.specs.Rules.{Pair, localHeight, highest, turnedV, doubledU, doubledV}
+use Rattle.scope.specs.Rules.{localHeight, highest, turnedV, doubledU, doubledV}
+use Rattle.scope.specs.declared.rule.Pair.{Pair}
 use Rattle.scope.specs.declared.side.Side.{Side}
 use Rattle.scope.specs.declared.rule.Kind.{Kind}
 use Rattle.scope.specs.declared.rule.Kind.the-variants.{Propagate, Lean, Even, Double}

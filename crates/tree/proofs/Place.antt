@@ -7,7 +7,8 @@ use native.Mathlib.Omega.{arith}
 use native.Mathlib.Decide.{decLe, ℕ-discrete}
 use borrow.Author.Tests.{eq-eqb, ne-eqb}
 use Rattle.scope.specs.Tree.{Batch, Tree, leaf, node, times, same}
-use Rattle.scope.specs.Rules.{Pair, pair}
+use Rattle.scope.specs.Rules.{pair}
+use Rattle.scope.specs.declared.rule.Pair.{Pair}
 use Rattle.scope.specs.declared.side.Side.{Side}
 use Rattle.scope.specs.declared.side.Side.the-variants.{Left, Right}
 use Rattle.scope.specs.declared.rule.Rule.{Rule}

@@ -10,7 +10,8 @@ use lib.Dec.{leb}
 use borrow.Author.Tests.{le-leb}
 use Rattle.scope.specs.Numbers.{mostHeight}
 use Rattle.scope.specs.Tree.{Batch, Tree, leaf, node, trueHeight}
-use Rattle.scope.specs.Rules.{Pair, pair, localHeight, guard, highest}
+use Rattle.scope.specs.Rules.{pair, localHeight, guard, highest}
+use Rattle.scope.specs.declared.rule.Pair.{Pair}
 use Rattle.scope.specs.declared.side.Side.{Side}
 use Rattle.scope.specs.declared.side.Side.the-variants.{Left, Right}
 use Rattle.scope.specs.declared.rule.Kind.{Kind}

@@ -4,7 +4,8 @@ use mathlib.Core.Path.{_≡_, refl}
 use mathlib.Core.List.{List, _∷_, _++_, append-assoc}
 use native.Mathlib.Omega.{arith}
 use Rattle.scope.specs.Tree.{Batch, Tree, size, inOrder, times, same, over, trueHeight}
-use Rattle.scope.specs.Rules.{Pair, localHeight}
+use Rattle.scope.specs.Rules.{localHeight}
+use Rattle.scope.specs.declared.rule.Pair.{Pair}
 use Rattle.scope.specs.declared.side.Side.{Side}
 use Rattle.scope.specs.declared.side.Side.the-variants.{Left, Right}
 use Rattle.tree.specs.Weight.{topHeight}

@@ -4,7 +4,8 @@ use mathlib.Core.Path.{_≡_, refl, ap}
 use native.Mathlib.Omega.{arith}
 use native.Mathlib.Nat.{max-comm}
 use Rattle.scope.specs.Tree.{Batch, Tree, size}
-use Rattle.scope.specs.Rules.{Pair, localHeight, turnedV, doubledU, doubledV}
+use Rattle.scope.specs.Rules.{localHeight, turnedV, doubledU, doubledV}
+use Rattle.scope.specs.declared.rule.Pair.{Pair}
 use Rattle.scope.specs.declared.side.Side.{Side}
 use Rattle.scope.specs.declared.side.Side.the-variants.{Left, Right}
 use Rattle.scope.specs.declared.rule.Kind.the-variants.{Propagate, Lean, Double}

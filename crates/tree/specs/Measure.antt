@@ -3,7 +3,8 @@ use Prim.Native.Nat.{ℕ, suc, _+_}
 use mathlib.Core.Path.{_≡_}
 use mathlib.Core.Bool.{true}
 use Rattle.scope.specs.Tree.{over}
-use Rattle.scope.specs.Rules.{Pair, localHeight, guard, turnedV, doubledU, doubledV}
+use Rattle.scope.specs.Rules.{localHeight, guard, turnedV, doubledU, doubledV}
+use Rattle.scope.specs.declared.rule.Pair.{Pair}
 use Rattle.scope.specs.declared.rule.Kind.{Kind}
 use Rattle.scope.specs.declared.rule.Kind.the-variants.{Propagate, Lean, Even, Double}
 use Rattle.tree.specs.Weight.{Scale, Fair}

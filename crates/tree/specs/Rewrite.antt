@@ -6,7 +6,8 @@ use mathlib.Core.List.{List, [], _∷_}
 use lib.Dec.{leb}
 use Rattle.scope.specs.Numbers.{mostHeight}
 use Rattle.scope.specs.Tree.{Batch, Tree, leaf, node}
-use Rattle.scope.specs.Rules.{Pair, pair, localHeight, guard, highest, turnedV, doubledU, doubledV}
+use Rattle.scope.specs.Rules.{pair, localHeight, guard, highest, turnedV, doubledU, doubledV}
+use Rattle.scope.specs.declared.rule.Pair.{Pair}
 use Rattle.scope.specs.declared.side.Side.{Side}
 use Rattle.scope.specs.declared.side.Side.the-variants.{Left, Right}
 use Rattle.scope.specs.declared.rule.Kind.{Kind}
