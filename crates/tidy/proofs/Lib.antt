@@ -4,3 +4,4 @@ pub mod Scanning
 pub mod Linking
 pub mod Dues
 pub mod Running
+pub mod Outcome

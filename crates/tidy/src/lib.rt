@@ -1,4 +1,7 @@
 // tidy: the firings of the stated order, until none is due or the budget is spent.
+pub mod call;
 pub mod run;
 pub mod scan;
 pub mod test;
+
+pub use call::tidy;

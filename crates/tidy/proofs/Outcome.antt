@@ -1,0 +1,30 @@
+-- tidy, by what its gate says. Assumes nothing.
+use Prim.Native.Nat.{ℕ}
+use mathlib.Core.Path.{_≡_, sym}
+use mathlib.Core.Bool.{true, cond}
+use mathlib.Core.List.{List}
+use Rattle.scope.specs.Table.{word, changeWord}
+use Rattle.scope.specs.Answers.{Done, refused, accepted}
+use Rattle.scope.specs.Sums.{soundGate}
+use Rattle.scope.specs.Sound.{soundTable}
+use Rattle.scope.specs.Tidy.{quiet, tidyFrom, tidied, tidyOf, Tidied}
+use Rattle.scope.specs.declared.answer.Refusal.{Refusal}
+use Rattle.scope.specs.declared.answer.Gate.{Gate}
+use Rattle.scope.specs.declared.answer.Gate.the-variants.{Shut, Open}
+use Rattle.words.specs.Ready.{Sized}
+use Rattle.words.proofs.Laws.{gate-passed}
+use Rattle.tidy.specs.Running.{Ran}
+
+-- an open gate leads to a table of c slots
+pub gate-sized : (t : List ℕ) (c : ℕ) → soundGate t true ≡ Open c → Sized t c
+gate-sized t c e = gate-passed t true (λ n. soundTable t n) c e .sized
+
+module _ (t : List ℕ) (budget : ℕ) where
+  pub tidy-shut : {why : Refusal} → soundGate t true ≡ Shut why → tidyOf t budget ≡ refused t why
+  unfolding tidyOf
+  tidy-shut e = simp e
+
+  pub tidy-open : {c made : ℕ} {u : List ℕ} → soundGate t true ≡ Open c → Ran t c budget made u
+      → tidyOf t budget ≡ record { answer = accepted (word t changeWord) made (cond (quiet u c) 1 0) 0; words = u }
+  unfolding tidyOf tidied
+  tidy-open e r = simp (e, sym (r .count), sym (r .words))
