@@ -23,9 +23,9 @@ returns-2 : tie.Need-returns-2
 returns-2 c =
     let i = c .before .before in
     let r = i .before .before .before in
-    hang-here _ _ _ _ (r .before .if1 .left) (r .slot-at .ensures) (i .before .before .blank .ensures)
-    (i .before .records .ensures) (i .if2 .taken) (c .before .change .ensures) (r .before .before .before .pre)
-    (c .if3 .taken)
+    let s = r .before .before .before in
+    hang-here _ (s .args .c) _ _ (r .before .if1 .left) (r .slot-at .ensures) (i .before .before .blank .ensures)
+    (i .before .records .ensures) (i .if2 .taken) (c .before .change .ensures) (s .pre) (c .if3 .taken)
 
 returns-3 : tie.Need-returns-3
 returns-3 c =
