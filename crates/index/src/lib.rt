@@ -1,0 +1,12 @@
+// The eleven calls of the table, in one place: whoever uses the library uses this crate.
+pub use fire::fire;
+pub use records::amend;
+pub use records::post;
+pub use removal::drop;
+pub use sound::check;
+pub use sums::rank;
+pub use sums::total;
+pub use tidy::tidy;
+pub use walk::find;
+pub use walk::start;
+pub use weigh::worth;
