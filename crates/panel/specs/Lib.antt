@@ -1,0 +1,2 @@
+-- What the calls for C write.
+pub mod Five
