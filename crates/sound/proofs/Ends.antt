@@ -37,7 +37,7 @@ module _ (t : List ℕ) (c : ℕ) where
   by-header e = simp e
 
   -- a number that is no slot is not reached
-  outside : (k : ℕ) → ((y : ℕ) → 1 ≤ y → y ≤ c → k ≡ y → ⊥) → (x : ℕ) (T : Tree) → x ≤ c → Spells t c x T → times k T ≡ 0
+  pub outside : (k : ℕ) → ((y : ℕ) → 1 ≤ y → y ≤ c → k ≡ y → ⊥) → (x : ℕ) (T : Tree) → x ≤ c → Spells t c x T → times k T ≡ 0
   unfolding Spells times
   outside k h x leaf q p = refl
   outside k h x (node d a b l r) q p =

@@ -1,9 +1,9 @@
-use Rattle.scope.specs.Sums.{rankAnswer}
+use mathlib.Core.Path.{sym}
 use native.Mathlib.Omega.{arith}
 use lib.Dec.{eqb}
 use borrow.Author.Tests.{eqb-false, not-true}
-use Rattle.sound.proofs.Opened.{opened, asked}
-use mathlib.Core.Path.{sym}
+use Rattle.scope.specs.Sums.{rankAnswer}
+use Rattle.sound.proofs.Opened.{opened, asked, headed}
 use borrow.Author.Needs.{needs}
 use Rattle.sums.proofs.rank.Statement.{statement}
 use Rattle.sums.proofs.rank.Tie as tie
@@ -30,7 +30,7 @@ rank-in-requires c κs =
     (omega (arith, c .wide .ensures), opened _ _ _ (c .before .before .before .before .enter-sound .ensures) (c .before .before .c .given .1))
 
 ranked-requires : tie.Need-ranked-requires
-ranked-requires c κs = let w = opened _ _ _ (c .before .before .before .before .before .enter-sound .ensures) (c .before .before .before .c .given .1) in omega (arith, w .sized)
+ranked-requires c κs = headed (opened _ _ _ (c .before .before .before .before .before .enter-sound .ensures) (c .before .before .before .c .given .1))
 
 returns : tie.Need-returns
 unfolding rankAnswer
