@@ -17,7 +17,7 @@ use Rattle.scope.specs.declared.answer.Refusal.{Refusal}
 use Rattle.scope.specs.declared.answer.Refusal.the-variants.{Damaged}
 use Rattle.scope.specs.declared.slots.SlotsIs.{SlotsIs}
 use Rattle.scope.specs.declared.slots.SlotsIs.the-variants.{Within, Outside}
-use Rattle.words.specs.Ready.{Headed, Sized}
+use Rattle.words.specs.Ready.{Headed}
 use Rattle.words.proofs.Laws.{gate-passed}
 use Rattle.sound.specs.Whole.{Whole}
 use Rattle.sound.proofs.Exact.{sound-says}

@@ -22,11 +22,23 @@ told-requires c κs = headed (opened _ _ _ (c .before .before .enter-sound .ensu
 
 returns : tie.Need-returns
 unfolding checkAnswer
-returns c = simp (sym (c .before .before .before .before .enter-sound .ensures), c .before .before .why .given .1, sym (c .refuse .ensures))
+returns c =
+    simp (
+      sym (c .before .before .before .before .enter-sound .ensures),
+      c .before .before .why .given .1,
+      sym
+          (c .refuse .ensures),
+    )
 
 returns-2 : tie.Need-returns-2
 unfolding checkAnswer
-returns-2 c = simp (sym (c .before .before .before .enter-sound .ensures), c .before .enum-told .given .1, sym (c .told .ensures))
+returns-2 c =
+    simp (
+      sym (c .before .before .before .enter-sound .ensures),
+      c .before .enum-told .given .1,
+      sym
+          (c .told .ensures),
+    )
 
 pub check-spec : {M : Type 1} → statement M
 check-spec =

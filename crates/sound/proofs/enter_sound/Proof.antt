@@ -22,12 +22,14 @@ returns c = shut-too _ _ _ (c .before .before .before .enter .ensures) (c .befor
 
 returns-2 : tie.Need-returns-2
 returns-2 c =
-    let e = open-too _ _ _ (c .before .before .before .before .before .enter .ensures) (c .before .before .before .c .given .1) in
+    let e = open-too _ _ _ (c .before .before .before .before .before .enter .ensures)
+    (c .before .before .before .c .given .1) in
     simp (sym (c .before .sound .ensures), c .if1 .taken) at e
 
 returns-3 : tie.Need-returns-3
 returns-3 c =
-    let e = open-too _ _ _ (c .before .before .before .before .before .enter .ensures) (c .before .before .before .c .given .1) in
+    let e = open-too _ _ _ (c .before .before .before .before .before .enter .ensures)
+    (c .before .before .before .c .given .1) in
     simp (sym (c .before .sound .ensures), c .if1 .left) at e
 
 pub enter-sound-spec : {M : Type 1} → statement M

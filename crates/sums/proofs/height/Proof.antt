@@ -24,15 +24,31 @@ size-requires : tie.Need-size-requires
 size-requires c κs = search needs
 
 told-requires : tie.Need-told-requires
-told-requires c κs = headed (opened _ _ _ (c .before .before .before .before .before .enter-sound .ensures) (c .before .before .before .c .given .1))
+told-requires c κs =
+    headed (opened _ _ _ (c .before .before .before .before .before .enter-sound .ensures)
+    (c .before .before .before .c .given .1))
 
 returns : tie.Need-returns
 unfolding heightAnswer
-returns c = simp (sym (c .before .before .before .before .enter-sound .ensures), c .before .before .why .given .1, sym (c .refuse .ensures))
+returns c =
+    simp (
+      sym (c .before .before .before .before .enter-sound .ensures),
+      c .before .before .why .given .1,
+      sym
+          (c .refuse .ensures),
+    )
 
 returns-2 : tie.Need-returns-2
 unfolding heightAnswer
-returns-2 c = simp (sym (c .before .before .before .before .before .before .enter-sound .ensures), c .before .before .before .before .c .given .1, sym (c .before .before .height-in .ensures), sym (c .before .size .ensures), sym (c .told .ensures))
+returns-2 c =
+    simp (
+      sym (c .before .before .before .before .before .before .enter-sound .ensures),
+      c .before .before .before .before .c .given .1,
+      sym (c .before .before .height-in .ensures),
+      sym
+          (c .before .size .ensures),
+      sym (c .told .ensures),
+    )
 
 pub height-spec : {M : Type 1} → statement M
 height-spec =

@@ -21,15 +21,28 @@ worth-in-requires : tie.Need-worth-in-requires
 worth-in-requires c κs = opened _ _ _ (c .before .before .before .enter-sound .ensures) (c .before .c .given .1)
 
 told-requires : tie.Need-told-requires
-told-requires c κs = headed (opened _ _ _ (c .before .before .before .before .enter-sound .ensures) (c .before .before .c .given .1))
+told-requires c κs =
+    headed (opened _ _ _ (c .before .before .before .before .enter-sound .ensures) (c .before .before .c .given .1))
 
 returns : tie.Need-returns
 unfolding worthAnswer
-returns c = simp (sym (c .before .before .before .before .enter-sound .ensures), c .before .before .why .given .1, sym (c .refuse .ensures))
+returns c =
+    simp (
+      sym (c .before .before .before .before .enter-sound .ensures),
+      c .before .before .why .given .1,
+      sym
+          (c .refuse .ensures),
+    )
 
 returns-2 : tie.Need-returns-2
 unfolding worthAnswer
-returns-2 c = simp (sym (c .before .before .before .before .before .enter-sound .ensures), c .before .before .before .c .given .1, sym (c .before .worth-in .ensures), sym (c .told .ensures))
+returns-2 c =
+    simp (
+      sym (c .before .before .before .before .before .enter-sound .ensures),
+      c .before .before .before .c .given .1,
+      sym (c .before .worth-in .ensures),
+      sym (c .told .ensures),
+    )
 
 pub worth-spec : {M : Type 1} → statement M
 worth-spec =
