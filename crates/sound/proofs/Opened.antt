@@ -1,4 +1,4 @@
--- The gate of the calls that want a sound table: over the gate that tests the header, and what it tells open. Assumes nothing.
+-- The gate of the calls that want a sound table, over the gate that tests the header. Assumes nothing.
 use Prim.Native.Nat.{ℕ}
 use mathlib.Core.Path.{_≡_, refl, sym, _∙_}
 use mathlib.Core.Bool.{Bool, true, false, cond}
@@ -44,7 +44,8 @@ module _ (t : List ℕ) where
       (λ h. let q = simp h at e in let z : _≡_ {A = ℕ} 0 1 = cc in absurd (omega arith))
       (λ h. let q = simp h at e in simp (by-header t (s .count) h) q)
 
-  pub shut-too : {g : Gate} (good : Bool) (why : Refusal) → g ≡ gate t good (λ n. headerOk n t) → g ≡ Shut why → Shut why ≡ soundGate t good
+  pub shut-too : {g : Gate} (good : Bool) (why : Refusal) → g ≡ gate t good (λ n. headerOk n t) → g ≡ Shut why
+      → Shut why ≡ soundGate t good
   unfolding gate
   shut-too good why e o = sym (shut-at good why (slotsIn (length t)) (sym e ∙ o))
 

@@ -66,17 +66,21 @@ pub +scan-spec : {M : Type 1} → statement M
     -- returns-3
     (λ c.
     let bad = rw (c .enum-told .given .1) at (c .before .before .visit .ensures) in
-    refused _ _ _ _ _ _ _ (omega arith) (omega (arith, c .before .before .before .before .before .before .before .pre .1)) bad)
+    let start = c .before .before .before .before .before .before .before in
+    refused _ _ _ _ _ _ _ (omega arith) (omega (arith, start .pre .1)) bad)
     -- returns-4
     (λ c.
     let v = c .before .before .before .before .before in
+    let start = v .before .before .before .before .before .before .before in
     let inside = rw (v .left .given .1) at (v .before .before .visit .ensures) in
     let bad = rw (c .enum-told2 .given .1) at (c .before .before .scan .ensures) in
-    left-refused _ _ _ _ _ _ _ (omega (arith, v .before .before .before .before .before .if1 .left)) (omega (arith, v .before .before .before .before .before .before .before .pre .1)) _ _ _ _ inside bad)
+    left-refused _ _ _ _ _ _ _ (omega (arith, v .before .before .before .before .before .if1 .left)) (omega (arith, start .pre .1))
+    _ _ _ _ inside bad)
     -- returns-5
     (λ c.
     let v = c .before .before .before .before .before .before .before .before in
+    let start = v .before .before .before .before .before .before .before in
     let inside = rw (v .left .given .1) at (v .before .before .visit .ensures) in
     let good = rw (c .before .before .before .n .given .1) at (c .before .before .before .before .before .scan .ensures) in
-    right-part _ _ _ _ _ _ _ (omega (arith, v .before .before .before .before .before .if1 .left)) (omega (arith, v .before .before .before .before .before .before .before .pre .1)) _ _ _ _ inside
-    _ _ _ good (omega (arith, v .before .before .before .before .if2 .left)) (c .scan2 .result) (c .scan2 .ensures))
+    right-part _ _ _ _ _ _ _ (omega (arith, v .before .before .before .before .before .if1 .left)) (omega (arith, start .pre .1))
+    _ _ _ _ inside _ _ _ good (omega (arith, v .before .before .before .before .if2 .left)) (c .scan2 .result) (c .scan2 .ensures))

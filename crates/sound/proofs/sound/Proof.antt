@@ -36,7 +36,8 @@ rest-blank-requires c κs = search needs
 returns : tie.Need-returns
 returns c =
     let v = c .before .before .before .before in
-    let bad = rw (c .enum-told .given .1, v .before .records .ensures, v .root .ensures) at (c .before .before .scan .ensures) in
+    let told = (c .before .before .scan .ensures) in
+    let bad = rw (c .enum-told .given .1, v .before .records .ensures, v .root .ensures) at told in
     let small = v .before .before .before .before .shared-slice-known .given in
     sym (by-scan _ _ (λ i. omega (arith, small i)) _ [] no-marks (v .before .before .before .before .before .pre .most) bad)
 
@@ -44,7 +45,8 @@ returns-2 : tie.Need-returns-2
 returns-2 c =
     let u = c .before .before .before in
     let v = u .before .before .before .before in
-    let good = rw (u .missing .given .1, v .before .records .ensures, v .root .ensures) at (u .before .before .scan .ensures) in
+    let told = (u .before .before .scan .ensures) in
+    let good = rw (u .missing .given .1, v .before .records .ensures, v .root .ensures) at told in
     let small = v .before .before .before .before .shared-slice-known .given in
     let header = sym (v .before .before .before .header-ok .ensures) ∙ v .before .before .if1 .taken in
     by-all _ _ (λ i. omega (arith, small i)) _ _ no-marks (v .before .before .before .before .before .pre .most) _ good header

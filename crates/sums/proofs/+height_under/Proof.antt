@@ -38,8 +38,7 @@ sides : (t : ℕ) (c : height-under-lts.After-fork-at (
   over-reads.Asked,
   over-reads.Learnt,
 ) (height-under-at t) height-under.Post)
-    → Forked (c .before .before .before .args .t .now) (c .before .before .before .args .more) (c .before .before .before .args .x)
-    (c .fork-at .result)
+    → let at = c .before .before .before .args in Forked (at .t .now) (at .more) (at .x) (c .fork-at .result)
 sides t c = forked (c .before .before .before .pre .1) (c .before .if1 .left) (c .fork-at .ensures)
 
 pub +height-under-spec : {M : Type 1} → statement M

@@ -34,8 +34,7 @@ sides : (t : ℕ) (c : rank-under-lts.After-fork-at (
   after-reads.Asked,
   after-reads.Learnt,
 ) (rank-under-at t) rank-under.Post)
-    → Forked (c .before .before .before .args .t .now) (c .before .before .before .args .more) (c .before .before .before .args .x)
-    (c .fork-at .result)
+    → let at = c .before .before .before .args in Forked (at .t .now) (at .more) (at .x) (c .fork-at .result)
 sides t c = forked (c .before .before .before .pre .1 .1) (c .before .if1 .left) (c .fork-at .ensures)
 
 pub +rank-under-spec : {M : Type 1} → statement M
@@ -66,33 +65,47 @@ pub +rank-under-spec : {M : Type 1} → statement M
     -- add-seen
     (λ c.
     let v = c .before in
-    omega (arith, seen-few (sides t (v .before .before .before)) (v .before .before .before .before .before .before .pre .1 .0) (v .before .before .rank-under .ensures) (v .n .given .1)))
+    let pos = v .before .before .before .before .before .before .pre .1 .0 in
+    let left = v .before .before .rank-under .ensures in
+    omega (arith, seen-few (sides t (v .before .before .before)) pos left (v .n .given .1)))
     -- returns-2
     (λ c.
     let v = c .before .before in
-    rank-here (sides t (v .before .before .before)) (v .before .before .before .before .before .before .pre .1 .0) (v .before .before .rank-under .ensures) (v .n .given .1) (c .if2 .taken))
+    let pos = v .before .before .before .before .before .before .pre .1 .0 in
+    let left = v .before .before .rank-under .ensures in
+    rank-here (sides t (v .before .before .before)) pos left (v .n .given .1) (c .if2 .taken))
     -- sub-rank-under
     (λ c.
     let v = c .before .before in
-    omega (arith, seen-few (sides t (v .before .before .before)) (v .before .before .before .before .before .before .pre .1 .0) (v .before .before .rank-under .ensures) (v .n .given .1)))
+    let pos = v .before .before .before .before .before .before .pre .1 .0 in
+    let left = v .before .before .rank-under .ensures in
+    omega (arith, seen-few (sides t (v .before .before .before)) pos left (v .n .given .1)))
     -- rank-under-requires-2
     (λ c κs.
     let v = c .before .before in
+    let pos = v .before .before .before .before .before .before .pre .1 .0 in
+    let left = v .before .before .rank-under .ensures in
     let d = sides t (v .before .before .before) in
-    let few = seen-few d (v .before .before .before .before .before .before .pre .1 .0) (v .before .before .rank-under .ensures) (v .n .given .1) in
+    let few = seen-few d pos left (v .n .given .1) in
     (omega (arith, v .before .before .before .before .before .before .pre .0, d .some), (omega (arith, few, c .if2 .left), d .on-right)))
     -- after-requires
     (λ c κs.
     let v = c .before .before .before in
+    let pos = v .before .before .before .before .before .before .pre .1 .0 in
+    let left = v .before .before .rank-under .ensures in
     let d = sides t (v .before .before .before) in
-    let few = seen-few d (v .before .before .before .before .before .before .pre .1 .0) (v .before .before .rank-under .ensures) (v .n .given .1) in
+    let few = seen-few d pos left (v .n .given .1) in
     (few .0, right-few d _ (c .rank-under2 .ensures)))
     -- returns-3
     (λ c.
     let v = c .before in
-    rank-left (sides t (v .before .before .before)) (v .before .before .before .before .before .before .pre .1 .0) (v .before .before .rank-under .ensures) (v .k .given .1))
+    let pos = v .before .before .before .before .before .before .pre .1 .0 in
+    let left = v .before .before .rank-under .ensures in
+    rank-left (sides t (v .before .before .before)) pos left (v .k .given .1))
     -- returns-4
     (λ c.
     let v = c .before .before .before .before in
-    rank-after (sides t (v .before .before .before)) (v .before .before .before .before .before .before .pre .1 .0) (v .before .before .rank-under .ensures) (v .n .given .1)
+    let pos = v .before .before .before .before .before .before .pre .1 .0 in
+    let left = v .before .before .rank-under .ensures in
+    rank-after (sides t (v .before .before .before)) pos left (v .n .given .1)
     (c .before .rank-under2 .ensures) (c .before .before .if2 .left) (c .after .ensures))

@@ -38,8 +38,7 @@ sides : (t : ℕ) (c : total-under-lts.After-fork-at (
   add3-reads.Asked,
   add3-reads.Learnt,
 ) (total-under-at t) total-under.Post)
-    → Forked (c .before .before .before .args .t .now) (c .before .before .before .args .more) (c .before .before .before .args .x)
-    (c .fork-at .result)
+    → let at = c .before .before .before .args in Forked (at .t .now) (at .more) (at .x) (c .fork-at .result)
 sides t c = forked (c .before .before .before .pre .1) (c .before .if1 .left) (c .fork-at .ensures)
 
 pub +total-under-spec : {M : Type 1} → statement M
@@ -75,8 +74,10 @@ unfolding totalOf
     -- add3-requires
     (λ c κs.
     let d = sides t (c .before .before .before .before) in
-    omega (arith, total-few d _ (c .before .total-under .ensures) (c .total-under2 .ensures) (c .before .before .counted .ensures)))
+    let own = c .before .before .counted .ensures in
+    omega (arith, total-few d _ (c .before .total-under .ensures) (c .total-under2 .ensures) own))
     -- returns-2
     (λ c.
     let d = sides t (c .before .before .before .before .before) in
-    total-here d _ (c .before .before .total-under .ensures) (c .before .total-under2 .ensures) (c .before .before .before .counted .ensures) (c .add3 .ensures))
+    let own = c .before .before .before .counted .ensures in
+    total-here d _ (c .before .before .total-under .ensures) (c .before .total-under2 .ensures) own (c .add3 .ensures))

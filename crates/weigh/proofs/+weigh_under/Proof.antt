@@ -37,8 +37,7 @@ sides : (t : ℕ) (c : weigh-under-lts.After-fork-at (
   join-reads.Asked,
   join-reads.Learnt,
 ) (weigh-under-at t) weigh-under.Post)
-    → Forked (c .before .before .before .args .t .now) (c .before .before .before .args .more) (c .before .before .before .args .x)
-    (c .fork-at .result)
+    → let at = c .before .before .before .args in Forked (at .t .now) (at .more) (at .x) (c .fork-at .result)
 sides t c = forked (c .before .before .before .pre .1 .0) (c .before .if1 .left) (c .fork-at .ensures)
 
 pub +weigh-under-spec : {M : Type 1} → statement M
@@ -85,5 +84,6 @@ pub +weigh-under-spec : {M : Type 1} → statement M
     -- returns-2
     (λ c.
     let start = c .before .before .before .before .before .before .before .before .before in
-    weigh-here (sides t (c .before .before .before .before .before .before)) (start .pre .1 .1) (c .before .before .before .weigh-under .ensures) (c .before .weigh-under2 .ensures)
+    let d = sides t (c .before .before .before .before .before .before) in
+    weigh-here d (start .pre .1 .1) (c .before .before .before .weigh-under .ensures) (c .before .weigh-under2 .ensures)
     (c .before .before .before .before .long .ensures) (c .before .before .long2 .ensures) (c .join .ensures))
