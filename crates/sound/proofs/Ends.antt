@@ -37,7 +37,8 @@ module _ (t : List ℕ) (c : ℕ) where
   by-header e = simp e
 
   -- a number that is no slot is not reached
-  outside : (k : ℕ) → ((y : ℕ) → 1 ≤ y → y ≤ c → k ≡ y → ⊥) → (x : ℕ) (T : Tree) → x ≤ c → Spells t c x T → times k T ≡ 0
+  pub outside : (k : ℕ) → ((y : ℕ) → 1 ≤ y → y ≤ c → k ≡ y → ⊥) → (x : ℕ) (T : Tree) → x ≤ c → Spells t c x T
+      → times k T ≡ 0
   unfolding Spells times
   outside k h x leaf q p = refl
   outside k h x (node d a b l r) q p =
@@ -114,7 +115,8 @@ module _ (t : List ℕ) (c : ℕ) where
             let z₁ : eqb (bitAt m k) 1 ≡ false = ne-eqb (bitAt m k) 1 (λ i. omega (arith, mark-is k h)) in
             simp z₁ at e
 
-        settled-test : (k : ℕ) → k ≤ c → (times k (g .tree) ≡ 0 → blankSlot (slotAt t k) ≡ true) → settledAt t m k ≡ true
+        settled-test : (k : ℕ) → k ≤ c → (times k (g .tree) ≡ 0 → blankSlot (slotAt t k) ≡ true)
+            → settledAt t m k ≡ true
         unfolding settledAt
         settled-test k h f =
             by-bool (eqb (bitAt m k) 1) (λ e. simp e)

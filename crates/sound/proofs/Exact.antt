@@ -36,7 +36,8 @@ module _ (t : List ℕ) (T : Tree) where
   slot-test k s =
       by-bool (eqb (times k T) 1)
       (λ p. simp p)
-      (λ p. let z : times k T ≡ 0 = omega (arith, s .once, eqb-false (times k T) 1 p) in simp p (both _ _ (eq-eqb _ _ z) (s .rest z)))
+      (λ p. let z : times k T ≡ 0 = omega (arith, s .once, eqb-false (times k T) 1 p) in
+      simp p (both _ _ (eq-eqb _ _ z) (s .rest z)))
 
   slots-say : (c : ℕ) → slotsOk t T c ≡ true → (k : ℕ) → 1 ≤ k → k ≤ c → slotOk t T k ≡ true
   unfolding slotsOk

@@ -15,7 +15,8 @@ use Rattle.scope.specs.declared.slot.Slot.{Slot}
 use Rattle.sound.proofs.Steps.{same-self}
 
 -- a slot is its eight words
-pub slot-words : (t t' : List ℕ) (k : ℕ) → ((f : ℕ) → f < 8 → word t' (base k + f) ≡ word t (base k + f)) → slotAt t' k ≡ slotAt t k
+pub slot-words : (t t' : List ℕ) (k : ℕ) → ((f : ℕ) → f < 8 → word t' (base k + f) ≡ word t (base k + f))
+    → slotAt t' k ≡ slotAt t k
 unfolding slotAt
 slot-words t t' k e =
     let z : word t' (base k) ≡ word t (base k) = rw (add-zero (base k)) at (e 0 (omega arith)) in
@@ -27,7 +28,8 @@ slot-set t i w k other = slot-words t (set t i w) k (λ f h. getD-set-other t i 
 
 module _ (t t' : List ℕ) (c : ℕ) where
   -- two tables with the same words in a tree's slots spell it both
-  pub frame : (x : ℕ) (T : Tree) → ((k : ℕ) → 1 ≤ times k T → slotAt t' k ≡ slotAt t k) → Spells t c x T → Spells t' c x T
+  pub frame : (x : ℕ) (T : Tree) → ((k : ℕ) → 1 ≤ times k T → slotAt t' k ≡ slotAt t k) → Spells t c x T
+      → Spells t' c x T
   unfolding Spells times
   frame x leaf h p = p
   frame x (node d a b l r) h p =
@@ -44,7 +46,8 @@ module _ (t t' : List ℕ) (c : ℕ) where
       }
 
   pub frame-words : (x : ℕ) (T : Tree)
-      → ((k f : ℕ) → 1 ≤ times k T → f < 8 → word t' (base k + f) ≡ word t (base k + f)) → Spells t c x T → Spells t' c x T
+      → ((k f : ℕ) → 1 ≤ times k T → f < 8 → word t' (base k + f) ≡ word t (base k + f)) → Spells t c x T
+      → Spells t' c x T
   frame-words x T h p = frame x T (λ k q. slot-words t t' k (λ f g. h k f q g)) p
 
 -- no tree has slot 0
@@ -92,7 +95,8 @@ module _ (c x : ℕ) (T : Tree) where
       frame-written ws (set t (w .place) (w .what)) (frame-set t p (w .place) (w .what) (out .0)) (out .1)
 
   -- and a slot that is written whole
-  pub frame-slot : (t : List ℕ) → Spells t c x T → (v : ℕ) (s : Slot) → 1 ≤ v → times v T ≡ 0 → Spells (withSlot t v s) c x T
+  pub frame-slot : (t : List ℕ) → Spells t c x T → (v : ℕ) (s : Slot) → 1 ≤ v → times v T ≡ 0
+      → Spells (withSlot t v s) c x T
   unfolding withSlot written AllApart
   frame-slot t p v s there z =
       let at : (n : ℕ) → n < 8 → (i : ℕ) → i ≡ base v + n → Apart T i = λ n h. slot-apart T v n there h z in

@@ -4,12 +4,13 @@ use mathlib.Core.Path.{_≡_, refl, sym}
 use mathlib.Core.Bool.{true}
 use mathlib.Core.List.{List}
 use native.Mathlib.Omega.{arith}
-use lib.ListN.{replicate, getD-replicate}
+use lib.ListN.{length, replicate, getD-replicate}
 use borrow.Author.Tests.{le-leb}
 use Rattle.scope.specs.Table.{word, base, slotAt}
 use Rattle.scope.specs.Fit.{headerOk, blankSlot}
 use Rattle.scope.specs.Tree.{leaf, size, times, Ordered}
 use Rattle.scope.specs.Sound.{Spells, soundTable, Sound}
+use Rattle.words.specs.Ready.{Sized}
 use Rattle.sound.proofs.Exact.{sound-test}
 
 -- the words of a table of c slots, all 0
@@ -54,3 +55,7 @@ module _ (c : ℕ) where
 
   pub zeros-sound : soundTable (zeros c) c ≡ true
   zeros-sound = sound-test (zeros c) c zeros-hold
+
+-- so is the table that start leaves
+pub started-sound : {t : List ℕ} {c : ℕ} → Sized t c → soundTable (replicate (length t) 0) c ≡ true
+started-sound {t} {c} s = rw (← s .room) (zeros-sound c)

@@ -4,14 +4,14 @@ use scope::Gate;
 use scope::Refusal;
 use scope::Scan;
 use scope::Slot;
-use scope::SlotsIs;
 use scope::Visit;
 ghost use mathlib.Core.Path.{_≡_};
 ghost use Prim.Native.Nat.{_≤_};
-ghost use Rattle.scope.specs.Table.{InTable};
+ghost use Rattle.scope.specs.Table.{word, changeWord, InTable};
 ghost use Rattle.scope.specs.Sound.{soundTable};
+ghost use Rattle.scope.specs.Answers.{accepted};
 ghost use Rattle.scope.specs.Sums.{soundGate, checkAnswer};
-ghost use Rattle.words.specs.Ready.{Sized};
+ghost use Rattle.words.specs.Ready.{Headed, Sized};
 ghost use Rattle.sound.specs.Scan.{inPlace, settledAt, Looking, Visited, Scanned, RestIs};
 
 // One more than the largest key.
@@ -119,21 +119,24 @@ pub fn sound(t: &[u32], c: usize) -> bool
 pub fn enter_sound(t: &[u32], in_range: bool) -> Gate
     ensures { λ r. ⌜ r ≡ soundGate (now (t .entry)) in_range ⌝ }
 {
-    match words::capacity(t.len()) {
-        SlotsIs::Outside => Gate::Shut(Refusal::WrongLength),
-        SlotsIs::Within(s) => {
-            let c = s.count;
-            if in_range {
-                if sound(t, c) {
-                    Gate::Open(c)
-                } else {
-                    Gate::Shut(Refusal::Damaged)
-                }
+    match words::enter(t, in_range) {
+        Gate::Shut(why) => Gate::Shut(why),
+        Gate::Open(c) => {
+            if sound(t, c) {
+                Gate::Open(c)
             } else {
-                Gate::Shut(Refusal::OutOfRange)
+                Gate::Shut(Refusal::Damaged)
             }
         }
     }
+}
+
+// An accepted call that says one number and changes nothing.
+pub fn told(t: &[u32], value: u64) -> Answer
+    requires { ⌜ Headed (now t) ⌝ }
+    ensures { λ r. ⌜ r ≡ accepted (word (now (t .entry)) changeWord) value 0 0 ⌝ }
+{
+    words::accept(words::long(words::change(t)), value, 0, 0)
 }
 
 // check: whether the table is sound.
@@ -142,6 +145,6 @@ pub fn check(t: &[u32]) -> Answer
 {
     match enter_sound(t, true) {
         Gate::Shut(why) => words::refuse(why),
-        Gate::Open(_) => words::accept(words::long(words::change(t)), 0, 0, 0),
+        Gate::Open(_) => told(t, 0),
     }
 }

@@ -78,12 +78,14 @@ pub says-leaf : {A : Type 0} (t : List ℕ) (x : ℕ) (f : Tree → A) → x ≡
 says-leaf t x f e c T p = ap f (sym (at-leaf t c x e T p))
 
 -- what a walk of a hanging tree said
-pub said-at : {A : Type 0} {t : List ℕ} {more x : ℕ} (h : Hangs t more x) (f : Tree → A) {r : A} → Says t x f r → r ≡ f (h .tree)
+pub said-at : {A : Type 0} {t : List ℕ} {more x : ℕ} (h : Hangs t more x) (f : Tree → A) {r : A} → Says t x f r
+    → r ≡ f (h .tree)
 said-at h f s = s (h .slots) (h .tree) (h .reached)
 
 -- what f says over a fork, it says of the tree
 pub says-fork : {A : Type 0} {t : List ℕ} {more x : ℕ} {f : Fork} (g : Tree → A) (d : Forked t more x f) {r : A}
-    → r ≡ g (node (batchAt t x) (f .slot .lefth) (f .slot .righth) (d .on-left .tree) (d .on-right .tree)) → Says t x g r
+    → r ≡ g (node (batchAt t x) (f .slot .lefth) (f .slot .righth) (d .on-left .tree) (d .on-right .tree))
+    → Says t x g r
 says-fork g d e c T p = e ∙ ap g (sym (d .whole c T p))
 
 -- the tree of a sound table hangs at its root, as the code reads it

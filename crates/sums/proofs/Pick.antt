@@ -14,7 +14,8 @@ use Rattle.scope.specs.declared.outcome.Rank.the-variants.{At, Past}
 use Rattle.sums.specs.Hangs.{after, Few}
 
 -- a node's slots in order are those on its left, its own, and those on its right
-pub order-node : (d : Batch) (a b : ℕ) (l r : Tree) → slotsInOrder (node d a b l r) ≡ slotsInOrder l ++ (d .slot ∷ slotsInOrder r)
+pub order-node : (d : Batch) (a b : ℕ) (l r : Tree)
+    → slotsInOrder (node d a b l r) ≡ slotsInOrder l ++ (d .slot ∷ slotsInOrder r)
 unfolding inOrder
 order-node d a b l r = map-append (λ (e : Batch). e .slot) (inOrder l) (d ∷ inOrder r)
 

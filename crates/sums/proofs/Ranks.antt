@@ -19,7 +19,8 @@ unfolding rankOf inOrder
 rank-leaf t x r pos e c T p = sym (pick-past r [] pos) ∙ says-leaf t x (rankOf r) e c T p
 
 -- on the right side there are few slots
-pub right-few : {t : List ℕ} {more x : ℕ} {f : Fork} (d : Forked t more x f) (r : ℕ) {b : Rank} → Says t (f .right) (rankOf r) b → Few b
+pub right-few : {t : List ℕ} {more x : ℕ} {f : Fork} (d : Forked t more x f) (r : ℕ) {b : Rank}
+    → Says t (f .right) (rankOf r) b → Few b
 unfolding rankOf
 right-few d r sb =
     rw (said-at (d .on-right) (rankOf r) sb)

@@ -83,4 +83,7 @@ module _ {t : List ℕ} {more x : ℕ} {f : Fork} (d : Forked t more x f) where
     pub total-here : {r : ℕ} → r ≡ a + b + own → Says t x (totalOf K) r
     unfolding totalOf counted
     total-here e =
-        says-fork (totalOf K) d (cc (e, eo, ap (λ (s : Slot). s .key) (d .slot), ap (λ (s : Slot). s .pieces) (d .slot), said-at (d .on-left) (totalOf K) sa, said-at (d .on-right) (totalOf K) sb))
+        let key = ap (λ (s : Slot). s .key) (d .slot) in
+        let pieces = ap (λ (s : Slot). s .pieces) (d .slot) in
+        says-fork (totalOf K) d
+        (cc (e, eo, key, pieces, said-at (d .on-left) (totalOf K) sa, said-at (d .on-right) (totalOf K) sb))

@@ -68,10 +68,7 @@ pub fn height(t: &[u32]) -> Answer
 {
     match sound::enter_sound(t, true) {
         Gate::Shut(why) => words::refuse(why),
-        Gate::Open(c) => {
-            let value = words::size(height_in(t, c));
-            words::accept(words::long(words::change(t)), value, 0, 0)
-        }
+        Gate::Open(c) => sound::told(t, words::size(height_in(t, c))),
     }
 }
 
@@ -124,10 +121,7 @@ pub fn total(t: &[u32], key: u32) -> Answer
 {
     match sound::enter_sound(t, true) {
         Gate::Shut(why) => words::refuse(why),
-        Gate::Open(c) => {
-            let value = total_in(t, c, key);
-            words::accept(words::long(words::change(t)), value, 0, 0)
-        }
+        Gate::Open(c) => sound::told(t, total_in(t, c, key)),
     }
 }
 
@@ -178,7 +172,7 @@ pub fn ranked(t: &[u32], found: Rank) -> Answer
     ensures { λ r. ⌜ r ≡ ranked (now (t .entry)) found ⌝ }
 {
     match found {
-        Rank::At(slot) => words::accept(words::long(words::change(t)), words::size(slot), 0, 0),
+        Rank::At(slot) => sound::told(t, words::size(slot)),
         Rank::Past(_) => words::refuse(Refusal::KeyAbsent),
     }
 }

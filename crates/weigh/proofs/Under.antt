@@ -77,13 +77,16 @@ module _ {t : List ℕ} {more x : ℕ} {f : Fork} (d : Forked t more x f) where
       pub weigh-here : g ≡ f .slot .lefth → h ≡ f .slot .righth → {r : Weighed} → r ≡ joined (f .slot) n above a b
           → Says t x (weighed n above) r
       weigh-here eg eh e =
+          let l = weighed-is (d .on-left) n g sa in
+          let r = weighed-is (d .on-right) n h sb in
           says-fork (weighed n above) d
-          (e ∙ joined-is (f .slot) n above a b (batchAt t x) (d .on-left .tree) (d .on-right .tree) (weighed-is (d .on-left) n g sa .0) (weighed-is (d .on-right) n h sb .0)
-          (cc (eg, weighed-is (d .on-left) n g sa .1)) (cc (eh, weighed-is (d .on-right) n h sb .1)))
+          (e ∙ joined-is (f .slot) n above a b (batchAt t x) (d .on-left .tree) (d .on-right .tree) (l .0) (r .0)
+          (cc (eg, l .1)) (cc (eh, r .1)))
 
 -- the whole table
 module _ {t : List ℕ} {c x : ℕ} (w : Whole t c) (ex : x ≡ word t rootWord) where
-  pub worth-whole : {n m g : ℕ} {all : Weighed} → n ≡ m → m ≡ word t countWord → Says t x topOf g → Says t x (weighed n g) all
+  pub worth-whole : {n m g : ℕ} {all : Weighed} → n ≡ m → m ≡ word t countWord → Says t x topOf g
+      → Says t x (weighed n g) all
       → all .weight ≡ worthOf (treeIn t c)
   unfolding weighed
   worth-whole {n} {m} {g} em en sg sn =

@@ -1,4 +1,4 @@
--- The weight of a tree from those of its sides, how large it can be, and that at the root it is the worth. Assumes nothing.
+-- The weight of a tree from those of its sides, its bound, and that at the root it is the worth. Assumes nothing.
 use Prim.Native.Nat.{ℕ, _+_, _-_, _*_, _≤_}
 use mathlib.Core.Path.{_≡_, refl, ap, _∙_}
 use mathlib.Core.List.{List}

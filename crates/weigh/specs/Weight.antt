@@ -1,4 +1,4 @@
--- What a tree weighs with n nodes in all and a register above it. Assumes nothing: these are definitions and statements.
+-- What a tree weighs, with n nodes in all and a register above it. Assumes nothing: these are definitions.
 use Prim.Native.Nat.{ℕ, _+_, _-_, _*_, _≤_, _<_}
 use mathlib.Core.List.{List}
 use Rattle.scope.specs.Tree.{Tree, leaf, node, size, over}

@@ -121,9 +121,6 @@ pub fn worth(t: &[u32]) -> Answer
 {
     match sound::enter_sound(t, true) {
         Gate::Shut(why) => words::refuse(why),
-        Gate::Open(c) => {
-            let value = worth_in(t, c);
-            words::accept(words::long(words::change(t)), value, 0, 0)
-        }
+        Gate::Open(c) => sound::told(t, worth_in(t, c)),
     }
 }

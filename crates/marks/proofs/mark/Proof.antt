@@ -27,7 +27,9 @@ returns c =
     let small : at .k % 64 < 64 = omega arith in
     record {
       room = simp length-set (c .before .pre .1);
-      bits = λ j h. rw (mask (at .k % 64) small) (marks (at .m .now) (at .k) (c .before .pre .0) (c .before .pre .1) j h);
+      bits =
+          λ j h. rw (mask (at .k % 64) small) (marks (at .m .now) (at .k) (c .before .pre .0) (c .before .pre .1) j
+          h);
     }
 
 pub mark-spec : {M : Type 1} → statement M

@@ -44,32 +44,43 @@ pub +scan-spec : {M : Type 1} → statement M
     (λ c. search needs)
     -- scan-requires
     (λ c κs.
-    let inside = rw (c .before .before .left .given .1) at (c .before .before .before .before .visit .ensures) in
-    let start = c .before .before .before .before .before .before .before .before .before in
-    (omega (arith, start .pre .0), record { sized = start .pre .1 .sized; link = left-in inside; marks = inside .mark .room }))
+    let v = c .before .before in
+    let start = v .before .before .before .before .before .before .before in
+    let inside = rw (v .left .given .1) at (v .before .before .visit .ensures) in (
+      omega (arith, start .pre .0),
+      record { sized = start .pre .1 .sized; link = left-in inside; marks = inside .mark .room },
+    ))
     -- enum-told-2
     (λ c. search needs)
     -- enum-known-n
     (λ c. search needs)
     -- scan-requires-2
     (λ c κs.
-    let inside = rw (c .before .before .before .before .before .before .before .left .given .1) at (c .before .before .before .before .before .before .before .before .before .visit .ensures) in
-    let good = rw (c .before .before .n .given .1) at (c .before .before .before .before .scan .ensures) in
-    let start = c .before .before .before .before .before .before .before .before .before .before .before .before .before .before in (
-      omega (arith, start .pre .0, c .before .before .before .before .before .before .before .before .before .before .before .if2 .left, good .used),
+    let v = c .before .before .before .before .before .before .before in
+    let start = v .before .before .before .before .before .before .before in
+    let inside = rw (v .left .given .1) at (v .before .before .visit .ensures) in
+    let good = rw (c .before .before .n .given .1) at (c .before .before .before .before .scan .ensures) in (
+      omega (arith, start .pre .0, v .before .before .before .before .if2 .left, good .used),
       record { sized = start .pre .1 .sized; link = omega (arith, left-in inside, right-in inside); marks = good .marks },
     ))
     -- returns-3
-    (λ c. let start = c .before .before .before .before .before .before .before in
-    refused _ _ _ _ _ _ _ (omega arith) (omega (arith, start .pre .1)) (rw (c .enum-told .given .1) at (c .before .before .visit .ensures)))
+    (λ c.
+    let bad = rw (c .enum-told .given .1) at (c .before .before .visit .ensures) in
+    let start = c .before .before .before .before .before .before .before in
+    refused _ _ _ _ _ _ _ (omega arith) (omega (arith, start .pre .1)) bad)
     -- returns-4
-    (λ c. let inside = rw (c .before .before .before .before .before .left .given .1) at (c .before .before .before .before .before .before .before .visit .ensures) in
-    let start = c .before .before .before .before .before .before .before .before .before .before .before .before in
-    left-refused _ _ _ _ _ _ _ (omega (arith, c .before .before .before .before .before .before .before .before .before .before .if1 .left)) (omega (arith, start .pre .1)) _ _ _ _ inside
-    (rw (c .enum-told2 .given .1) at (c .before .before .scan .ensures)))
+    (λ c.
+    let v = c .before .before .before .before .before in
+    let start = v .before .before .before .before .before .before .before in
+    let inside = rw (v .left .given .1) at (v .before .before .visit .ensures) in
+    let bad = rw (c .enum-told2 .given .1) at (c .before .before .scan .ensures) in
+    left-refused _ _ _ _ _ _ _ (omega (arith, v .before .before .before .before .before .if1 .left)) (omega (arith, start .pre .1))
+    _ _ _ _ inside bad)
     -- returns-5
-    (λ c. let inside = rw (c .before .before .before .before .before .before .before .before .left .given .1) at (c .before .before .before .before .before .before .before .before .before .before .visit .ensures) in
+    (λ c.
+    let v = c .before .before .before .before .before .before .before .before in
+    let start = v .before .before .before .before .before .before .before in
+    let inside = rw (v .left .given .1) at (v .before .before .visit .ensures) in
     let good = rw (c .before .before .before .n .given .1) at (c .before .before .before .before .before .scan .ensures) in
-    let start = c .before .before .before .before .before .before .before .before .before .before .before .before .before .before .before in
-    right-part _ _ _ _ _ _ _ (omega (arith, c .before .before .before .before .before .before .before .before .before .before .before .before .before .if1 .left)) (omega (arith, start .pre .1)) _ _ _ _ inside _ _ _ good
-    (omega (arith, c .before .before .before .before .before .before .before .before .before .before .before .before .if2 .left)) (c .scan2 .result) (c .scan2 .ensures))
+    right-part _ _ _ _ _ _ _ (omega (arith, v .before .before .before .before .before .if1 .left)) (omega (arith, start .pre .1))
+    _ _ _ _ inside _ _ _ good (omega (arith, v .before .before .before .before .if2 .left)) (c .scan2 .result) (c .scan2 .ensures))

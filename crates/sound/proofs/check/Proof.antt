@@ -1,7 +1,6 @@
 use Rattle.scope.specs.Sums.{checkAnswer}
+use Rattle.sound.proofs.Opened.{opened, headed}
 use mathlib.Core.Path.{sym}
-use native.Mathlib.Omega.{arith}
-use Rattle.sound.proofs.Opened.{opened}
 use borrow.Author.Needs.{needs}
 use Rattle.sound.proofs.check.Statement.{statement}
 use Rattle.sound.proofs.check.Tie as tie
@@ -18,22 +17,28 @@ refuse-requires c κs = search needs
 enum-told : tie.Need-enum-told
 enum-told c = search needs
 
-change-requires : tie.Need-change-requires
-change-requires c κs = let o = opened _ _ _ (c .before .before .enter-sound .ensures) (c .enum-told .given .1) in omega (arith, o .sized)
-
-long-requires : tie.Need-long-requires
-long-requires c κs = search needs
-
-accept-requires : tie.Need-accept-requires
-accept-requires c κs = search needs
+told-requires : tie.Need-told-requires
+told-requires c κs = headed (opened _ _ _ (c .before .before .enter-sound .ensures) (c .enum-told .given .1))
 
 returns : tie.Need-returns
 unfolding checkAnswer
-returns c = simp (sym (c .before .before .before .before .enter-sound .ensures), c .before .before .why .given .1, sym (c .refuse .ensures))
+returns c =
+    simp (
+      sym (c .before .before .before .before .enter-sound .ensures),
+      c .before .before .why .given .1,
+      sym
+          (c .refuse .ensures),
+    )
 
 returns-2 : tie.Need-returns-2
 unfolding checkAnswer
-returns-2 c = simp (sym (c .before .before .before .before .before .enter-sound .ensures), c .before .before .before .enum-told .given .1, sym (c .before .before .change .ensures), sym (c .before .long .ensures), sym (c .accept .ensures))
+returns-2 c =
+    simp (
+      sym (c .before .before .before .enter-sound .ensures),
+      c .before .enum-told .given .1,
+      sym
+          (c .told .ensures),
+    )
 
 pub check-spec : {M : Type 1} → statement M
 check-spec =
@@ -43,8 +48,6 @@ check-spec =
     enum-known-why
     refuse-requires
     enum-told
-    change-requires
-    long-requires
-    accept-requires
+    told-requires
     returns
     returns-2)

@@ -26,8 +26,11 @@ loop-less : tie.Need-loop-less Inv-loop μ-loop
 loop-less c = omega arith
 
 loop-again : tie.Need-loop-again Inv-loop μ-loop
-loop-again c =
-    (omega arith, settled-more _ _ _ (c .before .before .before .loop .inv .1) (sym (c .before .settled .ensures) ∙ c .if1 .taken))
+loop-again c = (
+  omega arith,
+  settled-more _ _ _ (c .before .before .before .loop .inv .1) (sym (c .before .settled .ensures) ∙
+      c .if1 .taken),
+)
 
 returns : tie.Need-returns Inv-loop μ-loop
 returns c = (

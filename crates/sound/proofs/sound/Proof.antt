@@ -19,9 +19,10 @@ root-requires c κs = search needs
 
 scan-requires : tie.Need-scan-requires
 scan-requires c κs =
-    let at = c .before .before .before .before .before .before .args in
-    let h = header-root (at .c) (at .t .now) (sym (c .before .before .before .before .header-ok .ensures) ∙ c .before .before .before .if1 .taken) in
-    record { sized = c .before .before .before .before .before .before .pre; link = omega (arith, c .before .root .ensures); marks = refl }
+    let v = c .before .before .before in
+    let at = v .before .before .before .args in
+    let h = header-root (at .c) (at .t .now) (sym (v .before .header-ok .ensures) ∙ v .if1 .taken) in
+    record { sized = v .before .before .before .pre; link = omega (arith, c .before .root .ensures); marks = refl }
 
 enum-told : tie.Need-enum-told
 enum-told c = search needs
@@ -34,18 +35,25 @@ rest-blank-requires c κs = search needs
 
 returns : tie.Need-returns
 returns c =
-    let bad = rw (c .enum-told .given .1, c .before .before .before .before .before .records .ensures, c .before .before .before .before .root .ensures) at (c .before .before .scan .ensures) in
-    sym (by-scan _ _ (λ i. omega (arith, c .before .before .before .before .before .before .before .before .shared-slice-known .given i)) _ [] no-marks (c .before .before .before .before .before .before .before .before .before .pre .most) bad)
+    let v = c .before .before .before .before in
+    let told = (c .before .before .scan .ensures) in
+    let bad = rw (c .enum-told .given .1, v .before .records .ensures, v .root .ensures) at told in
+    let small = v .before .before .before .before .shared-slice-known .given in
+    sym (by-scan _ _ (λ i. omega (arith, small i)) _ [] no-marks (v .before .before .before .before .before .pre .most) bad)
 
 returns-2 : tie.Need-returns-2
 returns-2 c =
-    let good = rw (c .before .before .before .missing .given .1, c .before .before .before .before .before .before .before .before .records .ensures, c .before .before .before .before .before .before .before .root .ensures) at (c .before .before .before .before .before .scan .ensures) in
-    by-all _ _ (λ i. omega (arith, c .before .before .before .before .before .before .before .before .before .before .before .shared-slice-known .given i)) _ _ no-marks (c .before .before .before .before .before .before .before .before .before .before .before .before .pre .most) _ good
-    (sym (c .before .before .before .before .before .before .before .before .before .before .header-ok .ensures) ∙ c .before .before .before .before .before .before .before .before .before .if1 .taken) (c .rest-blank .result) (c .rest-blank .ensures)
+    let u = c .before .before .before in
+    let v = u .before .before .before .before in
+    let told = (u .before .before .scan .ensures) in
+    let good = rw (u .missing .given .1, v .before .records .ensures, v .root .ensures) at told in
+    let small = v .before .before .before .before .shared-slice-known .given in
+    let header = sym (v .before .before .before .header-ok .ensures) ∙ v .before .before .if1 .taken in
+    by-all _ _ (λ i. omega (arith, small i)) _ _ no-marks (v .before .before .before .before .before .pre .most) _ good header
+    (c .rest-blank .result) (c .rest-blank .ensures)
 
 returns-3 : tie.Need-returns-3
-returns-3 c =
-    sym (by-header _ _ (sym (c .before .header-ok .ensures) ∙ c .if1 .left))
+returns-3 c = sym (by-header _ _ (sym (c .before .header-ok .ensures) ∙ c .if1 .left))
 
 pub sound-spec : {M : Type 1} → statement M
 sound-spec =

@@ -32,7 +32,8 @@ returns-2 c =
     let d = c .before .before .before .before .before in
     entered (d .before .before .before .before .marked .ensures) (d .before .before .slot-at .ensures)
     (d .before .in-place .ensures) (d .before .before .before .if1 .left) (d .if2 .taken)
-    (c .before .before .before .mark .ensures) (c .before .before .wide .ensures) (c .before .wide2 .ensures) (c .long .ensures)
+    (c .before .before .before .mark .ensures) (c .before .before .wide .ensures) (c .before .wide2 .ensures)
+    (c .long .ensures)
 
 returns-3 : tie.Need-returns-3
 returns-3 c =

@@ -38,7 +38,7 @@ sides : (t : ℕ) (c : height-under-lts.After-fork-at (
   over-reads.Asked,
   over-reads.Learnt,
 ) (height-under-at t) height-under.Post)
-    → Forked (c .before .before .before .args .t .now) (c .before .before .before .args .more) (c .before .before .before .args .x) (c .fork-at .result)
+    → let at = c .before .before .before .args in Forked (at .t .now) (at .more) (at .x) (c .fork-at .result)
 sides t c = forked (c .before .before .before .pre .1) (c .before .if1 .left) (c .fork-at .ensures)
 
 pub +height-under-spec : {M : Type 1} → statement M
@@ -60,10 +60,18 @@ unfolding trueHeight
     -- sub-less
     (λ c. sides t c .some)
     -- height-under-requires
-    (λ c κs. (omega (arith, c .before .before .before .pre .0, sides t c .some), sides t c .on-left))
+    (λ c κs.
+    let d = sides t c in
+    (omega (arith, c .before .before .before .pre .0, d .some), d .on-left))
     -- height-under-requires-2
-    (λ c κs. (omega (arith, c .before .before .before .before .pre .0, sides t (c .before) .some), sides t (c .before) .on-right))
+    (λ c κs.
+    let d = sides t (c .before) in
+    (omega (arith, c .before .before .before .before .pre .0, d .some), d .on-right))
     -- over-requires
-    (λ c κs. omega (arith, heights-few (sides t (c .before .before)) (c .before .height-under .ensures) (c .height-under2 .ensures)))
+    (λ c κs.
+    let d = sides t (c .before .before) in
+    omega (arith, heights-few d (c .before .height-under .ensures) (c .height-under2 .ensures)))
     -- returns-2
-    (λ c. height-here (sides t (c .before .before .before)) (c .before .before .height-under .ensures) (c .before .height-under2 .ensures) (c .over .ensures))
+    (λ c.
+    let d = sides t (c .before .before .before) in
+    height-here d (c .before .before .height-under .ensures) (c .before .height-under2 .ensures) (c .over .ensures))

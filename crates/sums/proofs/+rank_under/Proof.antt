@@ -34,7 +34,7 @@ sides : (t : ℕ) (c : rank-under-lts.After-fork-at (
   after-reads.Asked,
   after-reads.Learnt,
 ) (rank-under-at t) rank-under.Post)
-    → Forked (c .before .before .before .args .t .now) (c .before .before .before .args .more) (c .before .before .before .args .x) (c .fork-at .result)
+    → let at = c .before .before .before .args in Forked (at .t .now) (at .more) (at .x) (c .fork-at .result)
 sides t c = forked (c .before .before .before .pre .1 .1) (c .before .if1 .left) (c .fork-at .ensures)
 
 pub +rank-under-spec : {M : Type 1} → statement M
@@ -55,27 +55,57 @@ pub +rank-under-spec : {M : Type 1} → statement M
     -- sub-less
     (λ c. sides t c .some)
     -- rank-under-requires
-    (λ c κs. (omega (arith, c .before .before .before .pre .0, sides t c .some), ((c .before .before .before .pre .1 .0), sides t c .on-left)))
+    (λ c κs.
+    let d = sides t c in
+    (omega (arith, c .before .before .before .pre .0, d .some), (c .before .before .before .pre .1 .0, d .on-left)))
     -- enum-known-k
     (λ c. search needs)
     -- enum-known-n
     (λ c. search needs)
     -- add-seen
-    (λ c. omega (arith, seen-few (sides t (c .before .before .before .before)) (c .before .before .before .before .before .before .before .pre .1 .0) (c .before .before .before .rank-under .ensures) (c .before .n .given .1)))
+    (λ c.
+    let v = c .before in
+    let pos = v .before .before .before .before .before .before .pre .1 .0 in
+    let left = v .before .before .rank-under .ensures in
+    omega (arith, seen-few (sides t (v .before .before .before)) pos left (v .n .given .1)))
     -- returns-2
-    (λ c. rank-here (sides t (c .before .before .before .before .before)) (c .before .before .before .before .before .before .before .before .pre .1 .0) (c .before .before .before .before .rank-under .ensures) (c .before .before .n .given .1) (c .if2 .taken))
+    (λ c.
+    let v = c .before .before in
+    let pos = v .before .before .before .before .before .before .pre .1 .0 in
+    let left = v .before .before .rank-under .ensures in
+    rank-here (sides t (v .before .before .before)) pos left (v .n .given .1) (c .if2 .taken))
     -- sub-rank-under
-    (λ c. omega (arith, seen-few (sides t (c .before .before .before .before .before)) (c .before .before .before .before .before .before .before .before .pre .1 .0) (c .before .before .before .before .rank-under .ensures) (c .before .before .n .given .1)))
+    (λ c.
+    let v = c .before .before in
+    let pos = v .before .before .before .before .before .before .pre .1 .0 in
+    let left = v .before .before .rank-under .ensures in
+    omega (arith, seen-few (sides t (v .before .before .before)) pos left (v .n .given .1)))
     -- rank-under-requires-2
     (λ c κs.
-    let few = seen-few (sides t (c .before .before .before .before .before)) (c .before .before .before .before .before .before .before .before .pre .1 .0) (c .before .before .before .before .rank-under .ensures) (c .before .before .n .given .1) in
-    (omega (arith, c .before .before .before .before .before .before .before .before .pre .0, sides t (c .before .before .before .before .before) .some), (omega (arith, few, c .if2 .left), sides t (c .before .before .before .before .before) .on-right)))
+    let v = c .before .before in
+    let pos = v .before .before .before .before .before .before .pre .1 .0 in
+    let left = v .before .before .rank-under .ensures in
+    let d = sides t (v .before .before .before) in
+    let few = seen-few d pos left (v .n .given .1) in
+    (omega (arith, v .before .before .before .before .before .before .pre .0, d .some), (omega (arith, few, c .if2 .left), d .on-right)))
     -- after-requires
     (λ c κs.
-    (seen-few (sides t (c .before .before .before .before .before .before)) (c .before .before .before .before .before .before .before .before .before .pre .1 .0) (c .before .before .before .before .before .rank-under .ensures) (c .before .before .before .n .given .1) .0, right-few (sides t (c .before .before .before .before .before .before)) _ (c .rank-under2 .ensures)))
+    let v = c .before .before .before in
+    let pos = v .before .before .before .before .before .before .pre .1 .0 in
+    let left = v .before .before .rank-under .ensures in
+    let d = sides t (v .before .before .before) in
+    let few = seen-few d pos left (v .n .given .1) in
+    (few .0, right-few d _ (c .rank-under2 .ensures)))
     -- returns-3
-    (λ c. rank-left (sides t (c .before .before .before .before)) (c .before .before .before .before .before .before .before .pre .1 .0) (c .before .before .before .rank-under .ensures) (c .before .k .given .1))
+    (λ c.
+    let v = c .before in
+    let pos = v .before .before .before .before .before .before .pre .1 .0 in
+    let left = v .before .before .rank-under .ensures in
+    rank-left (sides t (v .before .before .before)) pos left (v .k .given .1))
     -- returns-4
     (λ c.
-    rank-after (sides t (c .before .before .before .before .before .before .before)) (c .before .before .before .before .before .before .before .before .before .before .pre .1 .0) (c .before .before .before .before .before .before .rank-under .ensures) (c .before .before .before .before .n .given .1)
+    let v = c .before .before .before .before in
+    let pos = v .before .before .before .before .before .before .pre .1 .0 in
+    let left = v .before .before .rank-under .ensures in
+    rank-after (sides t (v .before .before .before)) pos left (v .n .given .1)
     (c .before .rank-under2 .ensures) (c .before .before .if2 .left) (c .after .ensures))

@@ -38,7 +38,7 @@ sides : (t : ℕ) (c : total-under-lts.After-fork-at (
   add3-reads.Asked,
   add3-reads.Learnt,
 ) (total-under-at t) total-under.Post)
-    → Forked (c .before .before .before .args .t .now) (c .before .before .before .args .more) (c .before .before .before .args .x) (c .fork-at .result)
+    → let at = c .before .before .before .args in Forked (at .t .now) (at .more) (at .x) (c .fork-at .result)
 sides t c = forked (c .before .before .before .pre .1) (c .before .if1 .left) (c .fork-at .ensures)
 
 pub +total-under-spec : {M : Type 1} → statement M
@@ -64,13 +64,20 @@ unfolding totalOf
     -- counted-requires
     (λ c κs. search needs)
     -- total-under-requires
-    (λ c κs. (omega (arith, c .before .before .before .before .before .pre .0, sides t (c .before .before) .some), sides t (c .before .before) .on-left))
+    (λ c κs.
+    let d = sides t (c .before .before) in
+    (omega (arith, c .before .before .before .before .before .pre .0, d .some), d .on-left))
     -- total-under-requires-2
-    (λ c κs. (omega (arith, c .before .before .before .before .before .before .pre .0, sides t (c .before .before .before) .some), sides t (c .before .before .before) .on-right))
+    (λ c κs.
+    let d = sides t (c .before .before .before) in
+    (omega (arith, c .before .before .before .before .before .before .pre .0, d .some), d .on-right))
     -- add3-requires
     (λ c κs.
-    omega (arith, total-few (sides t (c .before .before .before .before)) _ (c .before .total-under .ensures) (c .total-under2 .ensures) (c .before .before .counted .ensures)))
+    let d = sides t (c .before .before .before .before) in
+    let own = c .before .before .counted .ensures in
+    omega (arith, total-few d _ (c .before .total-under .ensures) (c .total-under2 .ensures) own))
     -- returns-2
     (λ c.
-    total-here (sides t (c .before .before .before .before .before)) _ (c .before .before .total-under .ensures) (c .before .total-under2 .ensures)
-    (c .before .before .before .counted .ensures) (c .add3 .ensures))
+    let d = sides t (c .before .before .before .before .before) in
+    let own = c .before .before .before .counted .ensures in
+    total-here d _ (c .before .before .total-under .ensures) (c .before .total-under2 .ensures) own (c .add3 .ensures))

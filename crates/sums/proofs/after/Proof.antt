@@ -10,7 +10,9 @@ enum-known-found-2 : tie.Need-enum-known-found-2
 enum-known-found-2 c = search needs
 
 add-t6 : tie.Need-add-t6
-add-t6 c = let few = rw (c .before .found2 .given .1) at (c .before .before .before .pre .1) in omega (arith, c .before .before .before .pre .0)
+add-t6 c =
+    let few = rw (c .before .found2 .given .1) at (c .before .before .before .pre .1) in
+    omega (arith, c .before .before .before .pre .0)
 
 returns : tie.Need-returns
 returns c = simp (c .before .found .given .1)

@@ -1,5 +1,4 @@
-use native.Mathlib.Omega.{arith}
-use Rattle.sound.proofs.Opened.{opened}
+use Rattle.sound.proofs.Opened.{opened, headed}
 use Rattle.sums.specs.Hangs.{heightAnswer}
 use mathlib.Core.Path.{sym}
 use borrow.Author.Needs.{needs}
@@ -24,22 +23,32 @@ height-in-requires c κs = opened _ _ _ (c .before .before .before .enter-sound 
 size-requires : tie.Need-size-requires
 size-requires c κs = search needs
 
-change-requires : tie.Need-change-requires
-change-requires c κs = let w = opened _ _ _ (c .before .before .before .before .before .enter-sound .ensures) (c .before .before .before .c .given .1) in omega (arith, w .sized)
-
-long-requires : tie.Need-long-requires
-long-requires c κs = search needs
-
-accept-requires : tie.Need-accept-requires
-accept-requires c κs = search needs
+told-requires : tie.Need-told-requires
+told-requires c κs =
+    headed (opened _ _ _ (c .before .before .before .before .before .enter-sound .ensures)
+    (c .before .before .before .c .given .1))
 
 returns : tie.Need-returns
 unfolding heightAnswer
-returns c = simp (sym (c .before .before .before .before .enter-sound .ensures), c .before .before .why .given .1, sym (c .refuse .ensures))
+returns c =
+    simp (
+      sym (c .before .before .before .before .enter-sound .ensures),
+      c .before .before .why .given .1,
+      sym
+          (c .refuse .ensures),
+    )
 
 returns-2 : tie.Need-returns-2
 unfolding heightAnswer
-returns-2 c = simp (sym (c .before .before .before .before .before .before .before .before .enter-sound .ensures), c .before .before .before .before .before .before .c .given .1, sym (c .before .before .before .before .height-in .ensures), sym (c .before .before .before .size .ensures), sym (c .before .before .change .ensures), sym (c .before .long .ensures), sym (c .accept .ensures))
+returns-2 c =
+    simp (
+      sym (c .before .before .before .before .before .before .enter-sound .ensures),
+      c .before .before .before .before .c .given .1,
+      sym (c .before .before .height-in .ensures),
+      sym
+          (c .before .size .ensures),
+      sym (c .told .ensures),
+    )
 
 pub height-spec : {M : Type 1} → statement M
 height-spec =
@@ -51,8 +60,6 @@ height-spec =
     enum-known-c
     height-in-requires
     size-requires
-    change-requires
-    long-requires
-    accept-requires
+    told-requires
     returns
     returns-2)

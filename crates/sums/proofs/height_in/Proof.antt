@@ -14,7 +14,8 @@ height-under-requires : tie.Need-height-under-requires
 height-under-requires c κs = rooted (c .before .before .before .pre) (c .root .ensures) (c .before .records .ensures)
 
 returns : tie.Need-returns
-returns c = said (c .before .before .before .before .pre) (c .before .root .ensures) trueHeight (c .height-under .ensures)
+returns c =
+    said (c .before .before .before .before .pre) (c .before .root .ensures) trueHeight (c .height-under .ensures)
 
 pub height-in-spec : {M : Type 1} → statement M
 height-in-spec = tie.close (tie.spec records-requires root-requires height-under-requires returns)

@@ -11,10 +11,16 @@ root-requires : tie.Need-root-requires
 root-requires c κs = search needs
 
 rank-under-requires : tie.Need-rank-under-requires
-rank-under-requires c κs = (c .before .before .before .pre .0, rooted (c .before .before .before .pre .1) (c .root .ensures) (c .before .records .ensures))
+rank-under-requires c κs = (
+  c .before .before .before .pre .0,
+  rooted (c .before .before .before .pre .1) (c .root .ensures)
+      (c .before .records .ensures),
+)
 
 returns : tie.Need-returns
-returns c = said (c .before .before .before .before .pre .1) (c .before .root .ensures) (rankOf (c .before .before .before .before .args .r)) (c .rank-under .ensures)
+returns c =
+    said (c .before .before .before .before .pre .1) (c .before .root .ensures) (rankOf
+    (c .before .before .before .before .args .r)) (c .rank-under .ensures)
 
 pub rank-in-spec : {M : Type 1} → statement M
 rank-in-spec = tie.close (tie.spec records-requires root-requires rank-under-requires returns)

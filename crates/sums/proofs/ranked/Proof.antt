@@ -7,17 +7,11 @@ use Rattle.sums.proofs.ranked.Tie as tie
 enum-known-found : tie.Need-enum-known-found
 enum-known-found c = search needs
 
-change-requires : tie.Need-change-requires
-change-requires c κs = search needs
-
-long-requires : tie.Need-long-requires
-long-requires c κs = search needs
-
 size-requires : tie.Need-size-requires
 size-requires c κs = search needs
 
-accept-requires : tie.Need-accept-requires
-accept-requires c κs = search needs
+told-requires : tie.Need-told-requires
+told-requires c κs = search needs
 
 enum-told : tie.Need-enum-told
 enum-told c = search needs
@@ -27,7 +21,7 @@ refuse-requires c κs = search needs
 
 returns : tie.Need-returns
 unfolding ranked
-returns c = simp (c .before .before .before .before .before .found .given .1, sym (c .before .before .before .change .ensures), sym (c .before .before .long .ensures), sym (c .before .size .ensures), sym (c .accept .ensures))
+returns c = simp (c .before .before .before .found .given .1, sym (c .before .size .ensures), sym (c .told .ensures))
 
 returns-2 : tie.Need-returns-2
 unfolding ranked
@@ -38,10 +32,8 @@ ranked-spec =
     tie.close
     (tie.spec
     enum-known-found
-    change-requires
-    long-requires
     size-requires
-    accept-requires
+    told-requires
     enum-told
     refuse-requires
     returns

@@ -1,6 +1,5 @@
 use Rattle.scope.specs.Sums.{totalAnswer}
-use native.Mathlib.Omega.{arith}
-use Rattle.sound.proofs.Opened.{opened}
+use Rattle.sound.proofs.Opened.{opened, headed}
 use mathlib.Core.Path.{sym}
 use borrow.Author.Needs.{needs}
 use Rattle.sums.proofs.total.Statement.{statement}
@@ -21,22 +20,29 @@ enum-known-c c = search needs
 total-in-requires : tie.Need-total-in-requires
 total-in-requires c κs = opened _ _ _ (c .before .before .before .enter-sound .ensures) (c .before .c .given .1)
 
-change-requires : tie.Need-change-requires
-change-requires c κs = let w = opened _ _ _ (c .before .before .before .before .enter-sound .ensures) (c .before .before .c .given .1) in omega (arith, w .sized)
-
-long-requires : tie.Need-long-requires
-long-requires c κs = search needs
-
-accept-requires : tie.Need-accept-requires
-accept-requires c κs = search needs
+told-requires : tie.Need-told-requires
+told-requires c κs =
+    headed (opened _ _ _ (c .before .before .before .before .enter-sound .ensures) (c .before .before .c .given .1))
 
 returns : tie.Need-returns
 unfolding totalAnswer
-returns c = simp (sym (c .before .before .before .before .enter-sound .ensures), c .before .before .why .given .1, sym (c .refuse .ensures))
+returns c =
+    simp (
+      sym (c .before .before .before .before .enter-sound .ensures),
+      c .before .before .why .given .1,
+      sym
+          (c .refuse .ensures),
+    )
 
 returns-2 : tie.Need-returns-2
 unfolding totalAnswer
-returns-2 c = simp (sym (c .before .before .before .before .before .before .before .enter-sound .ensures), c .before .before .before .before .before .c .given .1, sym (c .before .before .before .total-in .ensures), sym (c .before .before .change .ensures), sym (c .before .long .ensures), sym (c .accept .ensures))
+returns-2 c =
+    simp (
+      sym (c .before .before .before .before .before .enter-sound .ensures),
+      c .before .before .before .c .given .1,
+      sym (c .before .total-in .ensures),
+      sym (c .told .ensures),
+    )
 
 pub total-spec : {M : Type 1} → statement M
 total-spec =
@@ -47,8 +53,6 @@ total-spec =
     refuse-requires
     enum-known-c
     total-in-requires
-    change-requires
-    long-requires
-    accept-requires
+    told-requires
     returns
     returns-2)

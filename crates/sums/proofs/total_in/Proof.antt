@@ -14,7 +14,9 @@ total-under-requires : tie.Need-total-under-requires
 total-under-requires c κs = rooted (c .before .before .before .pre) (c .root .ensures) (c .before .records .ensures)
 
 returns : tie.Need-returns
-returns c = said (c .before .before .before .before .pre) (c .before .root .ensures) (totalOf (c .before .before .before .before .args .key)) (c .total-under .ensures)
+returns c =
+    said (c .before .before .before .before .pre) (c .before .root .ensures) (totalOf
+    (c .before .before .before .before .args .key)) (c .total-under .ensures)
 
 pub total-in-spec : {M : Type 1} → statement M
 total-in-spec = tie.close (tie.spec records-requires root-requires total-under-requires returns)

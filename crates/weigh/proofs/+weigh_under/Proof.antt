@@ -37,7 +37,7 @@ sides : (t : ℕ) (c : weigh-under-lts.After-fork-at (
   join-reads.Asked,
   join-reads.Learnt,
 ) (weigh-under-at t) weigh-under.Post)
-    → Forked (c .before .before .before .args .t .now) (c .before .before .before .args .more) (c .before .before .before .args .x) (c .fork-at .result)
+    → let at = c .before .before .before .args in Forked (at .t .now) (at .more) (at .x) (c .fork-at .result)
 sides t c = forked (c .before .before .before .pre .1 .0) (c .before .if1 .left) (c .fork-at .ensures)
 
 pub +weigh-under-spec : {M : Type 1} → statement M
@@ -63,21 +63,27 @@ pub +weigh-under-spec : {M : Type 1} → statement M
     (λ c κs. search needs)
     -- weigh-under-requires
     (λ c κs.
+    let start = c .before .before .before .before .before in
     let d = sides t (c .before .before) in
-    (omega (arith, c .before .before .before .before .before .pre .0, d .some), (d .on-left, bears d (c .before .before .before .before .before .pre .1 .1) (omega (arith, registers d, c .long .ensures)))))
+    let bears-left = bears d (start .pre .1 .1) (omega (arith, registers d, c .long .ensures)) in
+    (omega (arith, start .pre .0, d .some), (d .on-left, bears-left)))
     -- long-requires-2
     (λ c κs. search needs)
     -- weigh-under-requires-2
     (λ c κs.
+    let start = c .before .before .before .before .before .before .before in
     let d = sides t (c .before .before .before .before) in
-    (omega (arith, c .before .before .before .before .before .before .before .pre .0, d .some), (d .on-right, bears d (c .before .before .before .before .before .before .before .pre .1 .1) (omega (arith, registers d, c .long2 .ensures)))))
+    let bears-right = bears d (start .pre .1 .1) (omega (arith, registers d, c .long2 .ensures)) in
+    (omega (arith, start .pre .0, d .some), (d .on-right, bears-right)))
     -- join-requires
     (λ c κs.
+    let start = c .before .before .before .before .before .before .before .before in
     let d = sides t (c .before .before .before .before .before) in
-    laden d (c .before .before .before .before .before .before .before .before .pre .1 .1) (c .before .before .weigh-under .ensures) (c .weigh-under2 .ensures)
+    laden d (start .pre .1 .1) (c .before .before .weigh-under .ensures) (c .weigh-under2 .ensures)
     (omega (arith, registers d, c .before .before .before .long .ensures)) (omega (arith, registers d, c .before .long2 .ensures)))
     -- returns-2
     (λ c.
-    weigh-here (sides t (c .before .before .before .before .before .before)) (c .before .before .before .before .before .before .before .before .before .pre .1 .1)
-    (c .before .before .before .weigh-under .ensures) (c .before .weigh-under2 .ensures)
+    let start = c .before .before .before .before .before .before .before .before .before in
+    let d = sides t (c .before .before .before .before .before .before) in
+    weigh-here d (start .pre .1 .1) (c .before .before .before .weigh-under .ensures) (c .before .weigh-under2 .ensures)
     (c .before .before .before .before .long .ensures) (c .before .before .long2 .ensures) (c .join .ensures))

@@ -11,12 +11,23 @@ sub-result c = search needs
 mul-result : tie.Need-mul-result
 mul-result c =
     let at = c .before .args in
-    omega (arith, product (at .out) (at .high - at .above) (omega (arith, c .before .pre)) (omega (arith, c .before .pre)))
+    omega (
+      arith,
+      product (at .out) (at .high - at .above) (omega (arith, c .before .pre)) (omega (
+        arith,
+        c .before .pre,
+      )),
+    )
 
 returns : tie.Need-returns
 returns c =
     let at = c .before .args in
-    omega (arith, c .if1 .taken, product (at .out) (at .high - at .above) (omega (arith, c .before .pre)) (omega (arith, c .before .pre)))
+    omega (
+      arith,
+      c .if1 .taken,
+      product (at .out) (at .high - at .above) (omega (arith, c .before .pre)) (omega
+          (arith, c .before .pre)),
+    )
 
 returns-2 : tie.Need-returns-2
 returns-2 c =

@@ -31,8 +31,10 @@ add-result c = search needs
 returns : tie.Need-returns
 returns c =
     let start = c .before .before .before .before .before .before in
-    let e = own-eq (start .args .s) (start .args .out) (start .args .above) (c .before .before .before .long .ensures) (c .before .before .long2 .ensures)
-    (c .before .before .before .before .before .local-height .ensures) (c .before .before .before .before .carry .ensures .0) (c .before .gap .ensures) (c .balance .ensures) in
+    let e = own-eq (start .args .s) (start .args .out) (start .args .above) (c .before .before .before .long .ensures)
+    (c .before .before .long2 .ensures)
+    (c .before .before .before .before .before .local-height .ensures)
+    (c .before .before .before .before .carry .ensures .0) (c .before .gap .ensures) (c .balance .ensures) in
     let light = start .pre in (
       e,
       omega (

@@ -20,7 +20,9 @@ unfolding topOf
 returns c = (says-leaf _ _ topOf (c .if1 .taken), omega arith)
 
 returns-2 : tie.Need-returns-2
-returns-2 c = top-here (forked (c .before .before .before .before .pre .1) (c .before .before .if1 .left) refl) (c .local-height .ensures ∙ ap (λ (s : Slot). over (s .lefth) (s .righth)) (c .before .slot-at .ensures))
+returns-2 c =
+    top-here (forked (c .before .before .before .before .pre .1) (c .before .before .if1 .left) refl)
+    (c .local-height .ensures ∙ ap (λ (s : Slot). over (s .lefth) (s .righth)) (c .before .slot-at .ensures))
 
 pub top-spec : {M : Type 1} → statement M
 top-spec = tie.close (tie.spec slot-at-requires local-height-requires returns returns-2)
