@@ -2,7 +2,7 @@
 use Prim.Native.Nat.{ℕ}
 use mathlib.Core.List.{List, [], _∷_}
 use lib.ListN.{replicate}
-use Rattle.scope.specs.Calls.{Call, check, find, post, amend, drop, rank, total, worth, fire, tidy, after}
+use Rattle.scope.specs.Calls.{Call, Check, Find, Post, Amend, Drop, Rank, Total, Worth, Fire, Tidy, after}
 use Rattle.scope.proofs.Script.{fives, codes, header, slot, Row, row}
 
 abbrev blank : List ℕ
@@ -40,29 +40,29 @@ deep =
 abbrev pub damage : List Row
 damage =
     -- calls that want a sound table say 3
-    row (codes (check ∷ rank 1 ∷ total 9 ∷ worth ∷ tidy 0 ∷ []) ring) (replicate 5 3)
+    row (codes (Check ∷ Rank 1 ∷ Total 9 ∷ Worth ∷ Tidy 0 ∷ []) ring) (replicate 5 3)
     -- but an argument out of range comes first
-    ∷ row (codes (rank 0 ∷ find 0 ∷ drop 0 ∷ []) torn) (replicate 3 2)
-    ∷ row (codes (find 40 ∷ post 50 1 1 ∷ amend 40 1 1 ∷ drop 40 ∷ fire 1 0 0 ∷ []) torn) (replicate 5 3)
+    ∷ row (codes (Rank 0 ∷ Find 0 ∷ Drop 0 ∷ []) torn) (replicate 3 2)
+    ∷ row (codes (Find 40 ∷ Post 50 1 1 ∷ Amend 40 1 1 ∷ Drop 40 ∷ Fire 1 0 0 ∷ []) torn) (replicate 5 3)
     -- find: the ring is walked until the slots are spent; what lies on the way is found
-    ∷ row (fives (find 40 ∷ find 30 ∷ find 50 ∷ []) ring) (0 ∷ 6 ∷ 9 ∷ 1 ∷ 1 ∷ 3 ∷ 0 ∷ 0 ∷ 0 ∷ 0 ∷ 5 ∷ 0 ∷ 0 ∷ 0 ∷ 0 ∷ [])
-    ∷ row (codes (find 40 ∷ find 20 ∷ find 30 ∷ []) unfit) (0 ∷ 3 ∷ 3 ∷ [])
+    ∷ row (fives (Find 40 ∷ Find 30 ∷ Find 50 ∷ []) ring) (0 ∷ 6 ∷ 9 ∷ 1 ∷ 1 ∷ 3 ∷ 0 ∷ 0 ∷ 0 ∷ 0 ∷ 5 ∷ 0 ∷ 0 ∷ 0 ∷ 0 ∷ [])
+    ∷ row (codes (Find 40 ∷ Find 20 ∷ Find 30 ∷ []) unfit) (0 ∷ 3 ∷ 3 ∷ [])
     -- post: a free slot that is not eight zeros, a count that is already full, no free slot whatever the count
-    ∷ row (codes (post 50 1 1 ∷ []) (stale 1 0)) (0 ∷ [])
-    ∷ row (codes (post 50 1 1 ∷ []) (stale 1 77)) (3 ∷ [])
-    ∷ row (codes (post 50 1 1 ∷ []) (stale 2 0)) (3 ∷ [])
-    ∷ row (codes (post 40 1 1 ∷ []) (stale 2 77)) (4 ∷ [])
-    ∷ row (codes (post 50 1 1 ∷ []) lost) (6 ∷ [])
-    ∷ row (fives (post 50 4 2 ∷ []) ring) (0 ∷ 7 ∷ 2 ∷ 0 ∷ 0 ∷ [])
-    ∷ row (slot 1 (after (post 50 4 2 ∷ []) ring)) (1 ∷ 40 ∷ 9 ∷ 1 ∷ 2 ∷ 3 ∷ 0 ∷ 0 ∷ [])
+    ∷ row (codes (Post 50 1 1 ∷ []) (stale 1 0)) (0 ∷ [])
+    ∷ row (codes (Post 50 1 1 ∷ []) (stale 1 77)) (3 ∷ [])
+    ∷ row (codes (Post 50 1 1 ∷ []) (stale 2 0)) (3 ∷ [])
+    ∷ row (codes (Post 40 1 1 ∷ []) (stale 2 77)) (4 ∷ [])
+    ∷ row (codes (Post 50 1 1 ∷ []) lost) (6 ∷ [])
+    ∷ row (fives (Post 50 4 2 ∷ []) ring) (0 ∷ 7 ∷ 2 ∷ 0 ∷ 0 ∷ [])
+    ∷ row (slot 1 (after (Post 50 4 2 ∷ []) ring)) (1 ∷ 40 ∷ 9 ∷ 1 ∷ 2 ∷ 3 ∷ 0 ∷ 0 ∷ [])
     -- drop: a son that is the record itself takes the link, and then its slot is zeroed
-    ∷ row (fives (drop 40 ∷ []) ring) (0 ∷ 7 ∷ 1 ∷ 0 ∷ 0 ∷ [])
-    ∷ row (header (after (drop 40 ∷ []) ring)) (1 ∷ 0 ∷ 7 ∷ 0 ∷ [])
-    ∷ row (slot 1 (after (drop 40 ∷ []) ring)) blank
+    ∷ row (fives (Drop 40 ∷ []) ring) (0 ∷ 7 ∷ 1 ∷ 0 ∷ 0 ∷ [])
+    ∷ row (header (after (Drop 40 ∷ []) ring)) (1 ∷ 0 ∷ 7 ∷ 0 ∷ [])
+    ∷ row (slot 1 (after (Drop 40 ∷ []) ring)) blank
     -- a record that no count knows of, a leftmost that is never reached
-    ∷ row (codes (drop 40 ∷ drop 7 ∷ amend 40 1 1 ∷ []) (stale 0 0)) (3 ∷ 5 ∷ 0 ∷ [])
-    ∷ row (codes (drop 40 ∷ drop 20 ∷ []) deep) (3 ∷ 0 ∷ [])
+    ∷ row (codes (Drop 40 ∷ Drop 7 ∷ Amend 40 1 1 ∷ []) (stale 0 0)) (3 ∷ 5 ∷ 0 ∷ [])
+    ∷ row (codes (Drop 40 ∷ Drop 20 ∷ []) deep) (3 ∷ 0 ∷ [])
     -- fire: an unfit node, a node that is its own son, a missing node, a free holder before all of these
-    ∷ row (codes (fire 1 0 0 ∷ fire 2 0 0 ∷ []) unfit) (3 ∷ 8 ∷ [])
-    ∷ row (codes (fire 1 0 0 ∷ fire 1 1 0 ∷ fire 1 2 0 ∷ []) ring) (3 ∷ 3 ∷ 8 ∷ [])
+    ∷ row (codes (Fire 1 0 0 ∷ Fire 2 0 0 ∷ []) unfit) (3 ∷ 8 ∷ [])
+    ∷ row (codes (Fire 1 0 0 ∷ Fire 1 1 0 ∷ Fire 1 2 0 ∷ []) ring) (3 ∷ 3 ∷ 8 ∷ [])
     ∷ []

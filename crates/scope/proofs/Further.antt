@@ -3,7 +3,7 @@ use Prim.Native.Nat.{ℕ}
 use mathlib.Core.List.{List, [], _∷_, _++_}
 use lib.ListN.{set}
 use Rattle.scope.specs.Table.{registerAt}
-use Rattle.scope.specs.Calls.{Call, start, check, find, post, amend, drop, rank, total, worth, fire, tidy, after}
+use Rattle.scope.specs.Calls.{Call, Start, Check, Find, Post, Amend, Drop, Rank, Total, Worth, Fire, Tidy, after}
 use Rattle.scope.specs.declared.side.Side.the-variants.{Left}
 use Rattle.scope.proofs.Script.{fresh, poured, fives, codes, values, header, slot, Row, row}
 
@@ -14,7 +14,7 @@ leaning =
 
 -- 40 over 20 and 60, and 50 under 60; the register over 50 is told of it
 abbrev four : List ℕ
-four = after (poured (40 ∷ 20 ∷ 60 ∷ 50 ∷ []) ++ (fire 1 1 1 ∷ [])) (fresh 4)
+four = after (poured (40 ∷ 20 ∷ 60 ∷ 50 ∷ []) ++ (Fire 1 1 1 ∷ [])) (fresh 4)
 
 abbrev pub further : List Row
 further =
@@ -22,41 +22,41 @@ further =
     row (slot 1 (after (poured (40 ∷ 20 ∷ [])) (fresh 3))) (1 ∷ 40 ∷ 1 ∷ 2 ∷ 0 ∷ 0 ∷ 0 ∷ 0 ∷ [])
     ∷ row (slot 2 (after (poured (40 ∷ 20 ∷ [])) (fresh 3))) (1 ∷ 20 ∷ 1 ∷ 0 ∷ 0 ∷ 0 ∷ 0 ∷ 0 ∷ [])
     -- a rotation is made at a balance of three too, and a firing moves no change number
-    ∷ row (fives (fire 3 0 0 ∷ []) leaning) (0 ∷ 3 ∷ 0 ∷ 0 ∷ 0 ∷ [])
-    ∷ row (header (after (fire 3 0 0 ∷ []) leaning)) (2 ∷ 3 ∷ 3 ∷ 0 ∷ [])
-    ∷ row (slot 1 (after (fire 3 0 0 ∷ []) leaning)) (1 ∷ 40 ∷ 1 ∷ 0 ∷ 0 ∷ 0 ∷ 0 ∷ 0 ∷ [])
-    ∷ row (slot 2 (after (fire 3 0 0 ∷ []) leaning)) (1 ∷ 20 ∷ 1 ∷ 3 ∷ 1 ∷ 2 ∷ 1 ∷ 0 ∷ [])
+    ∷ row (fives (Fire 3 0 0 ∷ []) leaning) (0 ∷ 3 ∷ 0 ∷ 0 ∷ 0 ∷ [])
+    ∷ row (header (after (Fire 3 0 0 ∷ []) leaning)) (2 ∷ 3 ∷ 3 ∷ 0 ∷ [])
+    ∷ row (slot 1 (after (Fire 3 0 0 ∷ []) leaning)) (1 ∷ 40 ∷ 1 ∷ 0 ∷ 0 ∷ 0 ∷ 0 ∷ 0 ∷ [])
+    ∷ row (slot 2 (after (Fire 3 0 0 ∷ []) leaning)) (1 ∷ 20 ∷ 1 ∷ 3 ∷ 1 ∷ 2 ∷ 1 ∷ 0 ∷ [])
     -- a drop that empties a link clears the register beside it
-    ∷ row (slot 1 (after (poured (40 ∷ 20 ∷ []) ++ (fire 1 0 0 ∷ [])) (fresh 3))) (1 ∷ 40 ∷ 1 ∷ 2 ∷ 0 ∷ 1 ∷ 0 ∷ 0 ∷ [])
-    ∷ row (slot 1 (after (poured (40 ∷ 20 ∷ []) ++ (fire 1 0 0 ∷ drop 20 ∷ [])) (fresh 3))) (1 ∷ 40 ∷ 1 ∷ 0 ∷ 0 ∷ 0 ∷ 0 ∷ 0 ∷ [])
+    ∷ row (slot 1 (after (poured (40 ∷ 20 ∷ []) ++ (Fire 1 0 0 ∷ [])) (fresh 3))) (1 ∷ 40 ∷ 1 ∷ 2 ∷ 0 ∷ 1 ∷ 0 ∷ 0 ∷ [])
+    ∷ row (slot 1 (after (poured (40 ∷ 20 ∷ []) ++ (Fire 1 0 0 ∷ Drop 20 ∷ [])) (fresh 3))) (1 ∷ 40 ∷ 1 ∷ 0 ∷ 0 ∷ 0 ∷ 0 ∷ 0 ∷ [])
     -- with two sons the leftmost of the right side takes the place, and its link's register is cleared too
     ∷ row (slot 3 four) (1 ∷ 60 ∷ 1 ∷ 4 ∷ 0 ∷ 1 ∷ 0 ∷ 0 ∷ [])
-    ∷ row (fives (drop 40 ∷ []) four) (0 ∷ 5 ∷ 4 ∷ 0 ∷ 0 ∷ [])
-    ∷ row (header (after (drop 40 ∷ []) four)) (1 ∷ 3 ∷ 5 ∷ 0 ∷ [])
-    ∷ row (slot 1 (after (drop 40 ∷ []) four)) (1 ∷ 50 ∷ 1 ∷ 2 ∷ 3 ∷ 0 ∷ 0 ∷ 0 ∷ [])
-    ∷ row (slot 3 (after (drop 40 ∷ []) four)) (1 ∷ 60 ∷ 1 ∷ 0 ∷ 0 ∷ 0 ∷ 0 ∷ 0 ∷ [])
-    ∷ row (slot 4 (after (drop 40 ∷ []) four)) (0 ∷ 0 ∷ 0 ∷ 0 ∷ 0 ∷ 0 ∷ 0 ∷ 0 ∷ [])
+    ∷ row (fives (Drop 40 ∷ []) four) (0 ∷ 5 ∷ 4 ∷ 0 ∷ 0 ∷ [])
+    ∷ row (header (after (Drop 40 ∷ []) four)) (1 ∷ 3 ∷ 5 ∷ 0 ∷ [])
+    ∷ row (slot 1 (after (Drop 40 ∷ []) four)) (1 ∷ 50 ∷ 1 ∷ 2 ∷ 3 ∷ 0 ∷ 0 ∷ 0 ∷ [])
+    ∷ row (slot 3 (after (Drop 40 ∷ []) four)) (1 ∷ 60 ∷ 1 ∷ 0 ∷ 0 ∷ 0 ∷ 0 ∷ 0 ∷ [])
+    ∷ row (slot 4 (after (Drop 40 ∷ []) four)) (0 ∷ 0 ∷ 0 ∷ 0 ∷ 0 ∷ 0 ∷ 0 ∷ 0 ∷ [])
     -- a son takes the link of a record that has no other; a freed slot is taken again, the lowest first
-    ∷ row (header (after (poured (40 ∷ 20 ∷ []) ++ (drop 40 ∷ [])) (fresh 3))) (2 ∷ 1 ∷ 3 ∷ 0 ∷ [])
-    ∷ row (fives (post 70 5 2 ∷ []) (after (poured (40 ∷ 20 ∷ []) ++ (drop 40 ∷ [])) (fresh 3))) (0 ∷ 4 ∷ 1 ∷ 0 ∷ 0 ∷ [])
+    ∷ row (header (after (poured (40 ∷ 20 ∷ []) ++ (Drop 40 ∷ [])) (fresh 3))) (2 ∷ 1 ∷ 3 ∷ 0 ∷ [])
+    ∷ row (fives (Post 70 5 2 ∷ []) (after (poured (40 ∷ 20 ∷ []) ++ (Drop 40 ∷ [])) (fresh 3))) (0 ∷ 4 ∷ 1 ∷ 0 ∷ 0 ∷ [])
     -- find: a hit with its visits and its state, misses, an amended record
-    ∷ row (fives (find 50 ∷ find 40 ∷ find 55 ∷ find 1 ∷ []) four)
+    ∷ row (fives (Find 50 ∷ Find 40 ∷ Find 55 ∷ Find 1 ∷ []) four)
     (0 ∷ 4 ∷ 1 ∷ 3 ∷ 1
     ∷ 0 ∷ 4 ∷ 1 ∷ 1 ∷ 1
     ∷ 5 ∷ 0 ∷ 0 ∷ 0 ∷ 0
     ∷ 5 ∷ 0 ∷ 0 ∷ 0 ∷ 0
     ∷ [])
-    ∷ row (fives (amend 50 800 2 ∷ find 50 ∷ []) four) (0 ∷ 5 ∷ 4 ∷ 0 ∷ 0 ∷ 0 ∷ 5 ∷ 800 ∷ 3 ∷ 2 ∷ [])
+    ∷ row (fives (Amend 50 800 2 ∷ Find 50 ∷ []) four) (0 ∷ 5 ∷ 4 ∷ 0 ∷ 0 ∷ 0 ∷ 5 ∷ 800 ∷ 3 ∷ 2 ∷ [])
     -- rank by stamp, total up to a stamp, remelt counted too
-    ∷ row (values (rank 1 ∷ rank 2 ∷ rank 3 ∷ rank 4 ∷ []) four) (2 ∷ 1 ∷ 4 ∷ 3 ∷ [])
-    ∷ row (values (total 19 ∷ total 20 ∷ total 55 ∷ total 4294967295 ∷ []) (after (amend 50 800 2 ∷ []) four)) (0 ∷ 1 ∷ 802 ∷ 803 ∷ [])
+    ∷ row (values (Rank 1 ∷ Rank 2 ∷ Rank 3 ∷ Rank 4 ∷ []) four) (2 ∷ 1 ∷ 4 ∷ 3 ∷ [])
+    ∷ row (values (Total 19 ∷ Total 20 ∷ Total 55 ∷ Total 4294967295 ∷ []) (after (Amend 50 800 2 ∷ []) four)) (0 ∷ 1 ∷ 802 ∷ 803 ∷ [])
     -- check and start; a budget of 0 fires nothing and tells whether a guard holds
-    ∷ row (fives (check ∷ start ∷ check ∷ tidy 0 ∷ worth ∷ []) four)
+    ∷ row (fives (Check ∷ Start ∷ Check ∷ Tidy 0 ∷ Worth ∷ []) four)
     (0 ∷ 4 ∷ 0 ∷ 0 ∷ 0
     ∷ 0 ∷ 0 ∷ 0 ∷ 0 ∷ 0
     ∷ 0 ∷ 0 ∷ 0 ∷ 0 ∷ 0
     ∷ 0 ∷ 0 ∷ 0 ∷ 1 ∷ 0
     ∷ 0 ∷ 0 ∷ 0 ∷ 0 ∷ 0
     ∷ [])
-    ∷ row (fives (tidy 0 ∷ tidy 1 ∷ tidy 100 ∷ []) four) (0 ∷ 4 ∷ 0 ∷ 0 ∷ 0 ∷ 0 ∷ 4 ∷ 1 ∷ 0 ∷ 0 ∷ 0 ∷ 4 ∷ 1 ∷ 1 ∷ 0 ∷ [])
+    ∷ row (fives (Tidy 0 ∷ Tidy 1 ∷ Tidy 100 ∷ []) four) (0 ∷ 4 ∷ 0 ∷ 0 ∷ 0 ∷ 0 ∷ 4 ∷ 1 ∷ 0 ∷ 0 ∷ 0 ∷ 4 ∷ 1 ∷ 1 ∷ 0 ∷ [])
     ∷ []

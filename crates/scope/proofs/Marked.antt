@@ -4,20 +4,20 @@ use mathlib.Core.List.{List, [], _∷_, _++_}
 use lib.ListN.{set, take}
 use Rattle.scope.specs.Table.{registerAt}
 use Rattle.scope.specs.Tidy.{rulesFired}
-use Rattle.scope.specs.Calls.{Call, post, drop, total, worth, fire, tidy, after}
+use Rattle.scope.specs.Calls.{Call, Post, Drop, Total, Worth, Fire, Tidy, after}
 use Rattle.scope.specs.declared.side.Side.the-variants.{Left}
 use Rattle.scope.proofs.Script.{fresh, poured, fives, codes, values, header, slot, Row, row}
 
 -- the three postings of the worked case, and what tidying makes of them
 abbrev day : List Call
-day = post 480 1200 1 ∷ post 510 900 1 ∷ post 540 750 1 ∷ []
+day = Post 480 1200 1 ∷ Post 510 900 1 ∷ Post 540 750 1 ∷ []
 
 abbrev m1 : List ℕ
 m1 = after day (fresh 3)
 
 -- the worth before, and after each of four firings
 abbrev oneByOne : List Call
-oneByOne = worth ∷ tidy 1 ∷ worth ∷ tidy 1 ∷ worth ∷ tidy 1 ∷ worth ∷ tidy 1 ∷ worth ∷ []
+oneByOne = Worth ∷ Tidy 1 ∷ Worth ∷ Tidy 1 ∷ Worth ∷ Tidy 1 ∷ Worth ∷ Tidy 1 ∷ Worth ∷ []
 
 abbrev m2 : List ℕ
 m2 = after (poured (540 ∷ 480 ∷ 510 ∷ [])) (fresh 3)
@@ -26,7 +26,7 @@ abbrev m3 : List ℕ
 m3 = after (poured (40 ∷ 20 ∷ 10 ∷ 30 ∷ [])) (fresh 4)
 
 abbrev m5 : List ℕ
-m5 = after (day ++ (tidy 10 ∷ drop 510 ∷ [])) (fresh 3)
+m5 = after (day ++ (Tidy 10 ∷ Drop 510 ∷ [])) (fresh 3)
 
 -- a chain to the left whose second node's left register holds h
 abbrev m6 : ℕ → List ℕ
@@ -39,38 +39,38 @@ marked =
     ∷ row (values oneByOne m1) (18 ∷ 1 ∷ 14 ∷ 1 ∷ 10 ∷ 1 ∷ 7 ∷ 1 ∷ 0 ∷ [])
     -- M2
     ∷ row (rulesFired 10 3 m2) (1 ∷ 2 ∷ 1 ∷ 7 ∷ [])
-    ∷ row (header (after (tidy 10 ∷ []) m2)) (3 ∷ 3 ∷ 3 ∷ 0 ∷ [])
+    ∷ row (header (after (Tidy 10 ∷ []) m2)) (3 ∷ 3 ∷ 3 ∷ 0 ∷ [])
     -- M3
-    ∷ row (values (worth ∷ tidy 10 ∷ []) m3) (42 ∷ 6 ∷ [])
-    ∷ row (header (after (tidy 10 ∷ []) m3)) (2 ∷ 4 ∷ 4 ∷ 0 ∷ [])
+    ∷ row (values (Worth ∷ Tidy 10 ∷ []) m3) (42 ∷ 6 ∷ [])
+    ∷ row (header (after (Tidy 10 ∷ []) m3)) (2 ∷ 4 ∷ 4 ∷ 0 ∷ [])
     -- M4
-    ∷ row (codes (fire 1 1 0 ∷ fire 2 1 0 ∷ fire 1 0 0 ∷ fire 3 0 0 ∷ fire 5 0 0 ∷ []) m3) (0 ∷ 0 ∷ 0 ∷ 8 ∷ 0 ∷ [])
-    ∷ row (values (worth ∷ fire 5 0 0 ∷ worth ∷ []) (after (fire 1 1 0 ∷ fire 2 1 0 ∷ fire 1 0 0 ∷ []) m3)) (5 ∷ 0 ∷ 4 ∷ [])
+    ∷ row (codes (Fire 1 1 0 ∷ Fire 2 1 0 ∷ Fire 1 0 0 ∷ Fire 3 0 0 ∷ Fire 5 0 0 ∷ []) m3) (0 ∷ 0 ∷ 0 ∷ 8 ∷ 0 ∷ [])
+    ∷ row (values (Worth ∷ Fire 5 0 0 ∷ Worth ∷ []) (after (Fire 1 1 0 ∷ Fire 2 1 0 ∷ Fire 1 0 0 ∷ []) m3)) (5 ∷ 0 ∷ 4 ∷ [])
     -- M5
     ∷ row (header m5) (2 ∷ 2 ∷ 4 ∷ 0 ∷ [])
     ∷ row (slot 2 m5) (1 ∷ 540 ∷ 750 ∷ 1 ∷ 0 ∷ 1 ∷ 0 ∷ 0 ∷ [])
     ∷ row (slot 3 m5) (0 ∷ 0 ∷ 0 ∷ 0 ∷ 0 ∷ 0 ∷ 0 ∷ 0 ∷ [])
     -- M6
-    ∷ row (codes (fire 1 0 0 ∷ []) (m6 65535)) (9 ∷ [])
-    ∷ row (codes (fire 1 0 0 ∷ []) (m6 65534)) (0 ∷ [])
-    ∷ row (slot 1 (after (fire 1 0 0 ∷ []) (m6 65534))) (1 ∷ 30 ∷ 1 ∷ 2 ∷ 0 ∷ 65535 ∷ 0 ∷ 0 ∷ [])
+    ∷ row (codes (Fire 1 0 0 ∷ []) (m6 65535)) (9 ∷ [])
+    ∷ row (codes (Fire 1 0 0 ∷ []) (m6 65534)) (0 ∷ [])
+    ∷ row (slot 1 (after (Fire 1 0 0 ∷ []) (m6 65534))) (1 ∷ 30 ∷ 1 ∷ 2 ∷ 0 ∷ 65535 ∷ 0 ∷ 0 ∷ [])
     -- M7
-    ∷ row (values (total 0 ∷ []) m1) (0 ∷ [])
+    ∷ row (values (Total 0 ∷ []) m1) (0 ∷ [])
     -- M8
-    ∷ row (codes (fire 1 2 0 ∷ []) (after (poured (40 ∷ [])) (fresh 3))) (8 ∷ [])
+    ∷ row (codes (Fire 1 2 0 ∷ []) (after (poured (40 ∷ [])) (fresh 3))) (8 ∷ [])
     ∷ []
 
 -- the worked case of the program `stand`, whose table has 15 slots: five calls, and the words that its list shows
 abbrev pub worked : List Row
 worked =
-    row (fives (day ++ (worth ∷ tidy 10 ∷ [])) (fresh 15))
+    row (fives (day ++ (Worth ∷ Tidy 10 ∷ [])) (fresh 15))
     (0 ∷ 1 ∷ 1 ∷ 0 ∷ 0
     ∷ 0 ∷ 2 ∷ 2 ∷ 0 ∷ 0
     ∷ 0 ∷ 3 ∷ 3 ∷ 0 ∷ 0
     ∷ 0 ∷ 3 ∷ 18 ∷ 0 ∷ 0
     ∷ 0 ∷ 3 ∷ 4 ∷ 1 ∷ 0
     ∷ [])
-    ∷ row (take 28 (after (day ++ (worth ∷ tidy 10 ∷ [])) (fresh 15)))
+    ∷ row (take 28 (after (day ++ (Worth ∷ Tidy 10 ∷ [])) (fresh 15)))
     (2 ∷ 3 ∷ 3 ∷ 0
     ∷ 1 ∷ 480 ∷ 1200 ∷ 0 ∷ 0 ∷ 0 ∷ 0 ∷ 0
     ∷ 1 ∷ 510 ∷ 900 ∷ 1 ∷ 3 ∷ 1 ∷ 1 ∷ 0

@@ -8,7 +8,7 @@ use lib.ListN.{replicate, take, drop}
 use lib.Dec.{eqb}
 use borrow.Author.Tests.{eqb-true}
 use Rattle.scope.proofs.Bools.{and-l, and-r}
-use Rattle.scope.specs.Calls.{Call, post, answers}
+use Rattle.scope.specs.Calls.{Call, Post, answers}
 use Rattle.scope.specs.Table.{base}
 use Rattle.scope.specs.declared.answer.Answer.{Answer}
 
@@ -18,7 +18,7 @@ fresh c = replicate (4 + 8 * c) 0
 
 -- one piece poured at each of the stamps
 abbrev pub poured : List ℕ → List Call
-poured ks = map (λ k. post k 1 1) ks
+poured ks = map (λ k. Post k 1 1) ks
 
 -- the five numbers of an answer, one answer after the other
 abbrev pub five : List Answer → List ℕ

@@ -13,45 +13,45 @@ use Rattle.scope.specs.Tidy.{tidyAnswer, tidyTable}
 use Rattle.scope.specs.declared.answer.Answer.{Answer}
 
 pub data Call : Type 0 where
-  start : Call
-  check : Call
-  find : ℕ → Call
-  post : ℕ → ℕ → ℕ → Call
-  amend : ℕ → ℕ → ℕ → Call
-  drop : ℕ → Call
-  rank : ℕ → Call
-  total : ℕ → Call
-  worth : Call
-  fire : ℕ → ℕ → ℕ → Call
-  tidy : ℕ → Call
+  Start : Call
+  Check : Call
+  Find : ℕ → Call
+  Post : ℕ → ℕ → ℕ → Call
+  Amend : ℕ → ℕ → ℕ → Call
+  Drop : ℕ → Call
+  Rank : ℕ → Call
+  Total : ℕ → Call
+  Worth : Call
+  Fire : ℕ → ℕ → ℕ → Call
+  Tidy : ℕ → Call
 
 -- what each call answers
 unfoldable pub answerOf : Call → List ℕ → Answer
-answerOf start t = startAnswer t
-answerOf check t = checkAnswer t
-answerOf (find key) t = findAnswer t key
-answerOf (post key pieces state) t = postAnswer t key pieces state
-answerOf (amend key pieces state) t = amendAnswer t key pieces state
-answerOf (drop key) t = dropAnswer t key
-answerOf (rank r) t = rankAnswer t r
-answerOf (total K) t = totalAnswer t K
-answerOf worth t = worthAnswer t
-answerOf (fire rule holder side) t = fireAnswer t rule holder side
-answerOf (tidy budget) t = tidyAnswer t budget
+answerOf Start t = startAnswer t
+answerOf Check t = checkAnswer t
+answerOf (Find key) t = findAnswer t key
+answerOf (Post key pieces state) t = postAnswer t key pieces state
+answerOf (Amend key pieces state) t = amendAnswer t key pieces state
+answerOf (Drop key) t = dropAnswer t key
+answerOf (Rank r) t = rankAnswer t r
+answerOf (Total K) t = totalAnswer t K
+answerOf Worth t = worthAnswer t
+answerOf (Fire rule holder side) t = fireAnswer t rule holder side
+answerOf (Tidy budget) t = tidyAnswer t budget
 
 -- the table after each call; five of them only answer
 unfoldable pub tableOf : Call → List ℕ → List ℕ
-tableOf start t = startTable t
-tableOf check t = t
-tableOf (find key) t = t
-tableOf (post key pieces state) t = postTable t key pieces state
-tableOf (amend key pieces state) t = amendTable t key pieces state
-tableOf (drop key) t = dropTable t key
-tableOf (rank r) t = t
-tableOf (total K) t = t
-tableOf worth t = t
-tableOf (fire rule holder side) t = fireTable t rule holder side
-tableOf (tidy budget) t = tidyTable t budget
+tableOf Start t = startTable t
+tableOf Check t = t
+tableOf (Find key) t = t
+tableOf (Post key pieces state) t = postTable t key pieces state
+tableOf (Amend key pieces state) t = amendTable t key pieces state
+tableOf (Drop key) t = dropTable t key
+tableOf (Rank r) t = t
+tableOf (Total K) t = t
+tableOf Worth t = t
+tableOf (Fire rule holder side) t = fireTable t rule holder side
+tableOf (Tidy budget) t = tidyTable t budget
 
 -- what each call promises of its answer r and of the table u that it leaves, for any words and arguments
 pub record Promise (x : Call) (t : List ℕ) (r : Answer) (u : List ℕ) : Type 0 where
