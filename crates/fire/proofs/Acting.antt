@@ -16,19 +16,7 @@ module _ {t : List ℕ} {c : ℕ} {r : Rule} {n : Nodes} (s : Sized t c) (w : Wi
   -- what an action asks
   pub asked : InNodes t c n × Low k (r .side) n
   unfolding highestAt
-  asked = (
-    record {
-      sized = s;
-      holder = w .holder;
-      v-first = w .v-first;
-      v-most = w .v-most;
-      u-first = w .u-first;
-      u-most = w .u-most;
-      w-first = w .w-first;
-      w-most = w .w-most;
-    },
-    rw e at (w .height),
-  )
+  asked = (record { sized = s; nodes = w .nodes }, rw e at (w .height))
 
   -- what it does
   pub acted : {u : List ℕ} → Kept c (written t (action k (r .side) n)) u → Kept c (written t (actionAt r n)) u

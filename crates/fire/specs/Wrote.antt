@@ -9,6 +9,7 @@ use Rattle.scope.specs.declared.side.Link.{Link}
 use Rattle.scope.specs.declared.rule.Kind.{Kind}
 use Rattle.scope.specs.declared.outcome.Nodes.{Nodes}
 use Rattle.words.specs.Ready.{Sized}
+use Rattle.rules.specs.Aimed.{Inside}
 
 -- slot k of a table of c slots
 pub record InSlot (t : List ℕ) (c k : ℕ) : Type 0 where
@@ -19,13 +20,7 @@ pub record InSlot (t : List ℕ) (c k : ℕ) : Type 0 where
 -- the nodes of a firing are slots of the table
 pub record InNodes (t : List ℕ) (c : ℕ) (n : Nodes) : Type 0 where
   pub sized : Sized t c
-  pub holder : n .link .holder ≤ c
-  pub v-first : 1 ≤ n .v
-  pub v-most : n .v ≤ c
-  pub u-first : 1 ≤ n .u
-  pub u-most : n .u ≤ c
-  pub w-first : 1 ≤ n .w
-  pub w-most : n .w ≤ c
+  pub nodes : Inside c n
 
 -- the table u is as said, and has c slots
 pub record Kept (c : ℕ) (said u : List ℕ) : Type 0 where

@@ -22,9 +22,9 @@ use Rattle.scope.specs.declared.outcome.Firing.{Firing}
 use Rattle.scope.specs.declared.outcome.Firing.the-variants.{Refuse, Fire}
 use Rattle.words.specs.Ready.{Ready}
 use Rattle.words.proofs.Laws.{fit-son}
-use Rattle.rules.specs.Aimed.{Reached, Nearby, Aimed, May}
+use Rattle.rules.specs.Aimed.{Reached, Nearby, Inside, Aimed, May}
 use Rattle.rules.proofs.Taking.{took, Took}
-use Rattle.rules.proofs.Judging.{Inside, may-judged}
+use Rattle.rules.proofs.Judging.{may-judged}
 
 -- a judged firing may be carried out where its nodes lie in the table
 judged-at : (c : ℕ) (r : Rule) (n : Nodes) {plan f : Firing} → Inside c n → judged r n ≡ plan → f ≡ judged r n → Aimed c plan f

@@ -25,8 +25,8 @@ pub record Nearby (t : List ℕ) (c : ℕ) (link : Link) (v : ℕ) : Type 0 wher
   pub first : 1 ≤ v
   pub most : v ≤ c
 
--- the nodes are slots of the table, and the heights that the action works out are heights
-pub record Within (c : ℕ) (r : Rule) (n : Nodes) : Type 0 where
+-- the nodes of a firing are slots of a table of c
+pub record Inside (c : ℕ) (n : Nodes) : Type 0 where
   pub holder : n .link .holder ≤ c
   pub v-first : 1 ≤ n .v
   pub v-most : n .v ≤ c
@@ -34,6 +34,10 @@ pub record Within (c : ℕ) (r : Rule) (n : Nodes) : Type 0 where
   pub u-most : n .u ≤ c
   pub w-first : 1 ≤ n .w
   pub w-most : n .w ≤ c
+
+-- and the heights that the action works out are heights
+pub record Within (c : ℕ) (r : Rule) (n : Nodes) : Type 0 where
+  pub nodes : Inside c n
   pub height : highestAt r n ≤ 65535
 
 abbrev pub May : ℕ → Firing → Type 0

@@ -50,13 +50,15 @@ module _ (t : List ℕ) (c v n : ℕ) {r : Rule} (d : passes true t c v n ≡ tr
       let u = named c (x .u) (and-r (not (eqb (x .sv .state) 0)) _ (and-l _ _ there)) in
       let w = named c (x .w) (and-r (not (eqb (x .sv .state) 0) && names c (x .u)) _ there) in
       record {
-        holder = h;
-        v-first = a;
-        v-most = b;
-        u-first = u .0;
-        u-most = u .1;
-        w-first = w .0;
-        w-most = w .1;
+        nodes = record {
+          holder = h;
+          v-first = a;
+          v-most = b;
+          u-first = u .0;
+          u-most = u .1;
+          w-first = w .0;
+          w-most = w .1;
+        };
         height = low;
       }
 

@@ -13,7 +13,7 @@ local-height-requires c κs = search needs
 
 put-height-requires : tie.Need-put-height-requires
 put-height-requires c κs = let p = c .before .before .before .before .pre in
-    (record { sized = p .0 .sized; first = p .0 .v-first; most = p .0 .v-most }, simp (c .local-height .ensures, c .before .seen .ensures) (p .1))
+    (record { sized = p .0 .sized; first = p .0 .nodes .v-first; most = p .0 .nodes .v-most }, simp (c .local-height .ensures, c .before .seen .ensures) (p .1))
 
 same-length : tie.Need-same-length
 same-length c = search needs

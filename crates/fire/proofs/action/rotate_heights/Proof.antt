@@ -22,7 +22,7 @@ over-requires c κs = search needs
 
 put-height-requires : tie.Need-put-height-requires
 put-height-requires c κs = let p = c .before .before .before .before .before .before .before .before .before .before .pre in (
-  record { sized = c .before .before .before .before .put-register .ensures .sized; first = p .0 .u-first; most = p .0 .u-most },
+  record { sized = c .before .before .before .before .put-register .ensures .sized; first = p .0 .nodes .u-first; most = p .0 .nodes .u-most },
   simp (c .over .ensures, c .before .before .before .before .before .before .seen2 .ensures, c .before .before .before .before .before .before .before .seen .ensures) (p .1),
 )
 

@@ -20,7 +20,7 @@ over-requires c κs = search needs
 
 put-height-requires : tie.Need-put-height-requires
 put-height-requires c κs = let p = c .before .before .before .before .before .before .pre in (
-  record { sized = p .0 .sized; first = p .0 .w-first; most = p .0 .w-most },
+  record { sized = p .0 .sized; first = p .0 .nodes .w-first; most = p .0 .nodes .w-most },
   simp (c .over .ensures, c .before .before .seen3 .ensures, c .before .before .before .seen2 .ensures) (omega (arith, p .1)),
 )
 
@@ -32,7 +32,7 @@ over-requires-2 c κs = search needs
 
 put-height-requires-2 : tie.Need-put-height-requires-2
 put-height-requires-2 c κs = let p = c .before .before .before .before .before .before .before .before .before .before .before .before .pre in (
-  record { sized = c .before .before .before .before .before .put-height .ensures .sized; first = p .0 .w-first; most = p .0 .w-most },
+  record { sized = c .before .before .before .before .before .put-height .ensures .sized; first = p .0 .nodes .w-first; most = p .0 .nodes .w-most },
   simp (c .over2 .ensures, c .before .before .before .before .before .before .before .before .seen3 .ensures, c .before .before .before .before .before .before .before .before .before .before .seen .ensures) (omega (arith, p .1)),
 )
 
