@@ -1,12 +1,11 @@
 -- The action of a rule, by its kind. Assumes nothing.
-use Prim.Native.Nat.{ℕ, _≤_}
-use mathlib.Core.Path.{_≡_, refl}
+use Prim.Native.Nat.{ℕ}
+use mathlib.Core.Path.{_≡_}
 use mathlib.Core.List.{List}
 use Rattle.scope.specs.Table.{written}
 use Rattle.scope.specs.Rules.{action, actionAt, highestAt}
 use Rattle.scope.specs.declared.rule.Kind.{Kind}
 use Rattle.scope.specs.declared.rule.Rule.{Rule}
-use Rattle.scope.specs.declared.side.Link.{Link}
 use Rattle.scope.specs.declared.outcome.Nodes.{Nodes}
 use Rattle.words.specs.Ready.{Sized}
 use Rattle.rules.specs.Aimed.{Within}

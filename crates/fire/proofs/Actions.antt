@@ -1,15 +1,13 @@
 -- Words written one after the other are the parts of an action, and the parts the action. Assumes nothing.
-use Prim.Native.Nat.{ℕ, _≤_, max}
-use mathlib.Core.Path.{_≡_, refl, sym, _∙_}
+use Prim.Native.Nat.{ℕ}
+use mathlib.Core.Path.{_≡_}
 use mathlib.Core.List.{List}
-use lib.ListN.{set}
 use Rattle.scope.specs.Numbers.{other}
 use Rattle.scope.specs.Table.{son, linkAt, registerAt, written}
 use Rattle.scope.specs.Tree.{over}
 use Rattle.scope.specs.Rules.{seen, localHeight, sonAt, propagated, rotated, rotatedTwice}
 use Rattle.scope.specs.declared.rule.Pair.{Pair}
 use Rattle.scope.specs.declared.side.Side.{Side}
-use Rattle.scope.specs.declared.slot.Slot.{Slot}
 use Rattle.scope.specs.declared.outcome.Nodes.{Nodes}
 use Rattle.fire.specs.Wrote.{Kept, Wrote}
 use Rattle.fire.specs.Parts.{rotatedLinks, rotatedHeights, twiceTop, twiceSons, twiceCopied, twiceHeights}

@@ -1,7 +1,7 @@
 -- From the raw numbers of a fire to its outcome. Assumes nothing.
 use Prim.Native.Nat.{ℕ, _≤_}
-use mathlib.Core.Path.{_≡_, refl, sym, _∙_}
-use mathlib.Core.Bool.{Bool, true, false, cond, not, _&&_}
+use mathlib.Core.Path.{_≡_, sym, _∙_}
+use mathlib.Core.Bool.{true, false, not, _&&_}
 use mathlib.Core.List.{List}
 use native.Mathlib.Omega.{arith}
 use borrow.Author.Tests.{ltb-false}
@@ -11,10 +11,9 @@ use Rattle.scope.proofs.Bools.{by-bool}
 use Rattle.scope.specs.Numbers.{ruleOf, sideOf, linkOf, knownLink}
 use Rattle.scope.specs.Table.{word, changeWord, slotsIn, written}
 use Rattle.scope.specs.Fit.{headerOk}
-use Rattle.scope.specs.Answers.{Done, refused, accepted}
+use Rattle.scope.specs.Answers.{refused, accepted}
 use Rattle.scope.specs.Rules.{actionAt}
 use Rattle.scope.specs.Fire.{aim, aimed, onRule, onLink, firePlan, fired, fireOf}
-use Rattle.scope.specs.declared.side.Side.{Side}
 use Rattle.scope.specs.declared.side.SideIs.{SideIs}
 use Rattle.scope.specs.declared.side.SideIs.the-variants as side-is
 use Rattle.scope.specs.declared.side.Link.{Link}

@@ -1,12 +1,10 @@
 -- The actions in parts that are written by one function each: links, then registers. Assumes nothing: these are definitions.
-use Prim.Native.Nat.{ℕ}
 use mathlib.Core.List.{List, [], _∷_}
 use Rattle.scope.specs.Numbers.{other}
 use Rattle.scope.specs.Table.{son, linkAt, registerAt, Write, put}
 use Rattle.scope.specs.Rules.{seen, localHeight, turnedV, doubledU, doubledV, sonAt}
 use Rattle.scope.specs.declared.rule.Pair.{Pair}
 use Rattle.scope.specs.declared.side.Side.{Side}
-use Rattle.scope.specs.declared.slot.Slot.{Slot}
 use Rattle.scope.specs.declared.outcome.Nodes.{Nodes}
 
 module _ (s : Side) (n : Nodes) where

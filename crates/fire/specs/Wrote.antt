@@ -5,7 +5,6 @@ use mathlib.Core.List.{List}
 use lib.ListN.{set}
 use Rattle.scope.specs.Rules.{seen, highest}
 use Rattle.scope.specs.declared.side.Side.{Side}
-use Rattle.scope.specs.declared.side.Link.{Link}
 use Rattle.scope.specs.declared.rule.Kind.{Kind}
 use Rattle.scope.specs.declared.outcome.Nodes.{Nodes}
 use Rattle.words.specs.Ready.{Sized}

@@ -10,7 +10,7 @@ use scope::RuleIs;
 use scope::SlotsIs;
 ghost use mathlib.Core.Path.{_≡_};
 ghost use Prim.Native.Nat.{_≤_};
-ghost use Rattle.scope.specs.Fire.{aimed, firePlan, fireAnswer, fireTable, onRule, onLink};
+ghost use Rattle.scope.specs.Fire.{aimed, fireAnswer, fireTable, onRule, onLink};
 ghost use Rattle.scope.specs.Numbers.{ruleOf, linkOf};
 ghost use Rattle.words.specs.Ready.{Sized};
 ghost use Rattle.rules.specs.Aimed.{Aimed};

@@ -1,7 +1,7 @@
 // Single words of a firing: a link, a son, a register, a height worked out anew. The table keeps its size.
 use scope::Link;
 use scope::Side;
-ghost use Prim.Native.Nat.{_≤_, _<_};
+ghost use Prim.Native.Nat.{_≤_};
 ghost use Rattle.scope.specs.Table.{linkAt, registerAt};
 ghost use Rattle.scope.specs.Rules.{sonAt};
 ghost use Rattle.words.specs.Ready.{Sized};

@@ -1,12 +1,12 @@
 -- A walk ends with a hit at a fit slot only. Assumes nothing.
 use Prim.Native.Nat.{ℕ, zero, suc, _+_}
-use mathlib.Core.Path.{_≡_, refl, sym, _∙_}
-use mathlib.Core.Bool.{Bool, true, false}
+use mathlib.Core.Path.{_≡_, refl}
+use mathlib.Core.Bool.{true}
 use mathlib.Core.List.{List}
 use native.Mathlib.Omega.{arith}
 use lib.Dec.{eqb}
 use Rattle.scope.proofs.Bools.{by-bool}
-use Rattle.scope.specs.Table.{word, rootWord, slotAt}
+use Rattle.scope.specs.Table.{slotAt}
 use Rattle.scope.specs.Fit.{fitSlot}
 use Rattle.scope.specs.Walk.{stepOf, onStep, walkFrom, walkOf}
 use Rattle.scope.specs.declared.side.Side.{Side}
@@ -15,7 +15,7 @@ use Rattle.scope.specs.declared.side.Link.{Link}
 use Rattle.scope.specs.declared.outcome.Step.{Step}
 use Rattle.scope.specs.declared.outcome.Step.the-variants.{Here, Down, Broken}
 use Rattle.scope.specs.declared.outcome.Walk.{Walk}
-use Rattle.scope.specs.declared.outcome.Walk.the-variants.{Hit, Miss, Damage}
+use Rattle.scope.specs.declared.outcome.Walk.the-variants.{Hit}
 use Rattle.removal.specs.Planned.{HitFits}
 
 here-fit : (c key : ℕ) (s : Slot) → stepOf c key s ≡ Here → fitSlot c s ≡ true

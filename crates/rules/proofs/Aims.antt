@@ -1,11 +1,11 @@
 -- How a firing is aimed, node by node: one law for each way that a taken or refused slot leads. Assumes nothing.
 use Prim.Native.Nat.{ℕ, _+_, _≤_}
-use mathlib.Core.Path.{_≡_, refl, sym, _∙_}
+use mathlib.Core.Path.{_≡_, refl, _∙_}
 use mathlib.Core.Bool.{true, false}
 use mathlib.Core.List.{List}
 use borrow.Author.Tests.{eq-eqb, ne-eqb}
 use Rattle.scope.specs.Numbers.{other}
-use Rattle.scope.specs.Table.{word, rootWord, base, slotAt, son, linkPlace, linkAt}
+use Rattle.scope.specs.Table.{word, base, slotAt, son, linkPlace, linkAt}
 use Rattle.scope.specs.Fit.{fitSlot}
 use Rattle.scope.specs.Fire.{takeOf, judged, hasThird, aimW, aimU, aimV, aim}
 use Rattle.scope.specs.declared.slot.Slot.{Slot}
@@ -15,15 +15,14 @@ use Rattle.scope.specs.declared.side.Link.{Link}
 use Rattle.scope.specs.declared.rule.Rule.{Rule}
 use Rattle.scope.specs.declared.answer.Refusal.{Refusal}
 use Rattle.scope.specs.declared.answer.Refusal.the-variants.{Damaged, GuardFails}
-use Rattle.scope.specs.declared.outcome.Taken.{Taken}
 use Rattle.scope.specs.declared.outcome.Taken.the-variants.{Got, Not}
 use Rattle.scope.specs.declared.outcome.Nodes.{Nodes}
 use Rattle.scope.specs.declared.outcome.Firing.{Firing}
-use Rattle.scope.specs.declared.outcome.Firing.the-variants.{Refuse, Fire}
+use Rattle.scope.specs.declared.outcome.Firing.the-variants.{Refuse}
 use Rattle.words.specs.Ready.{Ready}
 use Rattle.words.proofs.Laws.{fit-son}
-use Rattle.rules.specs.Aimed.{Reached, Nearby, Inside, Aimed, May}
-use Rattle.rules.proofs.Taking.{took, Took}
+use Rattle.rules.specs.Aimed.{Reached, Nearby, Inside, Aimed}
+use Rattle.rules.proofs.Taking.{took}
 use Rattle.rules.proofs.Judging.{may-judged}
 
 -- a judged firing may be carried out where its nodes lie in the table

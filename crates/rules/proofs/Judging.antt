@@ -1,5 +1,5 @@
 -- A firing that passed its tests may be carried out. Assumes nothing.
-use Prim.Native.Nat.{ℕ, _≤_}
+use Prim.Native.Nat.{ℕ}
 use borrow.Author.Tests.{leb-true}
 use lib.Dec.{leb}
 use Rattle.scope.proofs.Bools.{by-bool}

@@ -1,7 +1,7 @@
 -- What a slot that a firing has taken is. Assumes nothing.
 use Prim.Native.Nat.{ℕ, _≤_}
-use mathlib.Core.Path.{_≡_, refl, sym, _∙_}
-use mathlib.Core.Bool.{Bool, true, false, cond, not, _&&_}
+use mathlib.Core.Path.{_≡_}
+use mathlib.Core.Bool.{true, not, _&&_}
 use mathlib.Core.List.{List}
 use native.Mathlib.Omega.{arith}
 use borrow.Author.Tests.{eqb-false}
@@ -11,8 +11,7 @@ use Rattle.scope.specs.Table.{slotAt}
 use Rattle.scope.specs.Fit.{fitSlot}
 use Rattle.scope.specs.Fire.{takeOf}
 use Rattle.scope.specs.declared.slot.Slot.{Slot}
-use Rattle.scope.specs.declared.outcome.Taken.{Taken}
-use Rattle.scope.specs.declared.outcome.Taken.the-variants.{Got, Not}
+use Rattle.scope.specs.declared.outcome.Taken.the-variants.{Got}
 
 -- it is there, and fit
 pub record Took (t : List ℕ) (c k : ℕ) (s : Slot) : Type 0 where

@@ -1,8 +1,7 @@
 -- What is known of the nodes of a firing on the way to it, and of the firing itself. Assumes nothing: these are statements.
-use Prim.Native.Nat.{ℕ, _≤_, _<_}
+use Prim.Native.Nat.{ℕ, _≤_}
 use mathlib.Core.Path.{_≡_}
 use mathlib.Core.List.{List}
-use lib.ListN.{length}
 use Rattle.scope.specs.Table.{word, linkAt}
 use Rattle.scope.specs.Rules.{highestAt}
 use Rattle.scope.specs.declared.rule.Rule.{Rule}

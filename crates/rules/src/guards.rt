@@ -4,7 +4,7 @@ use scope::Pair;
 use scope::Side;
 use scope::Slot;
 ghost use mathlib.Core.Path.{_≡_};
-ghost use mathlib.Core.Bool.{Bool, cond};
+ghost use mathlib.Core.Bool.{cond};
 ghost use Prim.Native.Nat.{max};
 ghost use Rattle.scope.specs.Tree.{over};
 ghost use Rattle.scope.specs.Rules.{seen, localHeight, reliable, heavy, guard, highest};

@@ -2,7 +2,7 @@
 use Prim.Native.Nat.{ℕ}
 use mathlib.Core.List.{List, [], _∷_}
 use lib.ListN.{replicate}
-use Rattle.scope.specs.Calls.{Call, Check, Find, Post, Amend, Drop, Rank, Total, Worth, Fire, Tidy, after}
+use Rattle.scope.specs.Calls.{Check, Find, Post, Amend, Drop, Rank, Total, Worth, Fire, Tidy, after}
 use Rattle.scope.proofs.Script.{fives, codes, header, slot, Row, row}
 
 abbrev blank : List ℕ

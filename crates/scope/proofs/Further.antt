@@ -3,9 +3,9 @@ use Prim.Native.Nat.{ℕ}
 use mathlib.Core.List.{List, [], _∷_, _++_}
 use lib.ListN.{set}
 use Rattle.scope.specs.Table.{registerAt}
-use Rattle.scope.specs.Calls.{Call, Start, Check, Find, Post, Amend, Drop, Rank, Total, Worth, Fire, Tidy, after}
+use Rattle.scope.specs.Calls.{Start, Check, Find, Post, Amend, Drop, Rank, Total, Worth, Fire, Tidy, after}
 use Rattle.scope.specs.declared.side.Side.the-variants.{Left}
-use Rattle.scope.proofs.Script.{fresh, poured, fives, codes, values, header, slot, Row, row}
+use Rattle.scope.proofs.Script.{fresh, poured, fives, values, header, slot, Row, row}
 
 -- a chain to the left whose top leans by three
 abbrev leaning : List ℕ

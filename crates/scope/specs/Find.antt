@@ -1,6 +1,6 @@
 -- start and find (document 01, "Calls and what they answer").
 use Prim.Native.Nat.{ℕ}
-use mathlib.Core.Bool.{Bool, true, not}
+use mathlib.Core.Bool.{true, not}
 use mathlib.Core.List.{List}
 use lib.ListN.{length, replicate}
 use lib.Dec.{eqb}
@@ -8,7 +8,6 @@ use Rattle.scope.specs.Table.{word, changeWord, slotAt}
 use Rattle.scope.specs.Fit.{headerOk}
 use Rattle.scope.specs.Answers.{Done, refused, accepted, refusal, gate, answering}
 use Rattle.scope.specs.Walk.{walkOf}
-use Rattle.scope.specs.declared.slot.Slot.{Slot}
 use Rattle.scope.specs.declared.answer.Answer.{Answer}
 use Rattle.scope.specs.declared.answer.Refusal.the-variants.{Damaged, KeyAbsent}
 use Rattle.scope.specs.declared.answer.Gate.{Gate}

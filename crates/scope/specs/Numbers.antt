@@ -1,6 +1,6 @@
 -- Raw numbers as sides, links, rules, heights and slot counts (document 01, "Kept as constants of their type").
 use Prim.Native.Nat.{ℕ}
-use mathlib.Core.Bool.{Bool, true, false, cond, not, _&&_, _||_}
+use mathlib.Core.Bool.{cond, not, _&&_}
 use lib.Dec.{leb, ltb, eqb}
 use Rattle.scope.specs.declared.side.Side.{Side}
 use Rattle.scope.specs.declared.side.Side.the-variants.{Left, Right}
@@ -11,7 +11,6 @@ use Rattle.scope.specs.declared.side.LinkIs.{LinkIs}
 use Rattle.scope.specs.declared.side.LinkIs.the-variants as link-is
 use Rattle.scope.specs.declared.rule.Kind.{Kind}
 use Rattle.scope.specs.declared.rule.Kind.the-variants.{Propagate, Lean, Even, Double}
-use Rattle.scope.specs.declared.rule.Rule.{Rule}
 use Rattle.scope.specs.declared.rule.RuleIs.{RuleIs}
 use Rattle.scope.specs.declared.rule.RuleIs.the-variants as rule-is
 use Rattle.scope.specs.declared.height.HeightIs.{HeightIs}

@@ -8,7 +8,6 @@ use lib.Dec.{eqb}
 use Rattle.scope.specs.Table.{word, rootWord, countWord, slotAt}
 use Rattle.scope.specs.Fit.{fitSlot, blankSlot, headerOk}
 use Rattle.scope.specs.Tree.{Batch, Tree, leaf, node, size, times, ordered, Ordered}
-use Rattle.scope.specs.declared.slot.Slot.{Slot}
 
 -- the record in slot k
 abbrev pub batchAt : List ℕ → ℕ → Batch

@@ -5,7 +5,7 @@ use mathlib.Core.List.{List, map}
 use lib.ListN.{length, getD}
 use lib.Dec.{leb, eqb}
 use Rattle.scope.specs.Table.{word, changeWord}
-use Rattle.scope.specs.Tree.{Batch, Tree, leaf, node, inOrder}
+use Rattle.scope.specs.Tree.{Tree, leaf, node, inOrder}
 use Rattle.scope.specs.Sound.{soundTable, treeIn}
 use Rattle.scope.specs.Answers.{accepted, refusal, gate, answering}
 use Rattle.scope.specs.declared.answer.Answer.{Answer}

@@ -10,7 +10,7 @@ use Rattle.scope.specs.declared.side.Side.the-variants.{Left, Right}
 use Rattle.scope.specs.declared.side.Link.{Link}
 use Rattle.scope.specs.declared.slot.Slot.{Slot}
 use Rattle.scope.specs.declared.slots.SlotsIs.{SlotsIs}
-use Rattle.scope.specs.declared.slots.SlotsIs.the-variants.{Within, Outside}
+use Rattle.scope.specs.declared.slots.SlotsIs.the-variants.{Outside}
 
 -- word i, counted from 0
 abbrev pub word : List ℕ → ℕ → ℕ

@@ -1,6 +1,6 @@
 -- tidy: the firings of the stated order, at most as many as the budget (document 01, "The eight rules").
 use Prim.Native.Nat.{ℕ, zero, suc, _+_}
-use mathlib.Core.Bool.{Bool, true, false, cond, not, _&&_, _||_}
+use mathlib.Core.Bool.{Bool, true, false, cond, not, _&&_}
 use mathlib.Core.List.{List, [], _∷_}
 use lib.Dec.{leb, eqb}
 use Rattle.scope.specs.Numbers.{mostHeight, other, rootLink, ruleOf}
@@ -9,7 +9,6 @@ use Rattle.scope.specs.Answers.{Done, refused, accepted}
 use Rattle.scope.specs.Sums.{soundGate}
 use Rattle.scope.specs.Rules.{guardAt, highestAt, actionAt}
 use Rattle.scope.specs.Fire.{hasThird}
-use Rattle.scope.specs.declared.slot.Slot.{Slot}
 use Rattle.scope.specs.declared.side.Side.the-variants.{Left, Right}
 use Rattle.scope.specs.declared.side.Link.{Link}
 use Rattle.scope.specs.declared.rule.Rule.{Rule}

@@ -3,7 +3,7 @@ use Prim.Native.Nat.{ℕ, _+_, _*_, _-_, max}
 use mathlib.Core.Bool.{true}
 use mathlib.Core.List.{List}
 use Rattle.scope.specs.Table.{word, changeWord}
-use Rattle.scope.specs.Tree.{Batch, Tree, leaf, node, size, over}
+use Rattle.scope.specs.Tree.{Tree, leaf, node, size, over}
 use Rattle.scope.specs.Sound.{treeIn}
 use Rattle.scope.specs.Answers.{accepted, answering}
 use Rattle.scope.specs.Sums.{soundGate}

@@ -1,23 +1,20 @@
 -- A rule that is due sees all its nodes, and its firing may be carried out. Assumes nothing.
 use Prim.Native.Nat.{ℕ, _≤_}
-use mathlib.Core.Path.{_≡_, refl, sym, _∙_}
-use mathlib.Core.Bool.{Bool, true, false, cond, not, _&&_}
+use mathlib.Core.Path.{_≡_, _∙_}
+use mathlib.Core.Bool.{true, not, _&&_}
 use mathlib.Core.List.{List}
 use native.Mathlib.Omega.{arith}
 use borrow.Author.Tests.{leb-true}
-use lib.Dec.{leb, eqb}
+use lib.Dec.{eqb}
 use Rattle.scope.proofs.Bools.{and-l, and-r}
-use Rattle.scope.specs.Numbers.{rootLink, ruleOf}
-use Rattle.scope.specs.Table.{slotAt, written}
-use Rattle.scope.specs.Rules.{guardAt, highestAt, actionAt}
-use Rattle.scope.specs.Tidy.{nodesAt, present, holdsAt, dueAt, byRule, passes, linkTo, firedAt}
-use Rattle.scope.specs.declared.slot.Slot.{Slot}
+use Rattle.scope.specs.Numbers.{ruleOf}
+use Rattle.scope.specs.Table.{written}
+use Rattle.scope.specs.Rules.{highestAt, actionAt}
+use Rattle.scope.specs.Tidy.{nodesAt, present, holdsAt, dueAt, passes, firedAt}
 use Rattle.scope.specs.declared.side.Link.{Link}
 use Rattle.scope.specs.declared.rule.Rule.{Rule}
-use Rattle.scope.specs.declared.rule.RuleIs.{RuleIs}
 use Rattle.scope.specs.declared.rule.RuleIs.the-variants as rule-is
 use Rattle.scope.specs.declared.outcome.Nodes.{Nodes}
-use Rattle.words.specs.Ready.{Sized}
 use Rattle.rules.specs.Aimed.{Within}
 use Rattle.fire.specs.Wrote.{Kept}
 use Rattle.tidy.specs.Sight.{names, sightOf}

@@ -1,6 +1,6 @@
 -- The search for the link that holds a slot, under way. Assumes nothing.
-use Prim.Native.Nat.{ℕ, zero, suc, _+_, _-_, _≤_, _<_}
-use mathlib.Core.Path.{_≡_, refl, sym, _∙_, ap}
+use Prim.Native.Nat.{ℕ, suc, _+_, _-_, _≤_, _<_}
+use mathlib.Core.Path.{_≡_, sym, _∙_, ap}
 use mathlib.Core.List.{List}
 use native.Mathlib.Omega.{arith}
 use borrow.Author.Tests.{eq-eqb, ne-eqb}
@@ -9,7 +9,6 @@ use Rattle.scope.specs.Table.{slotAt, son}
 use Rattle.scope.specs.Tidy.{linkFrom, linkTo}
 use Rattle.scope.specs.declared.slot.Slot.{Slot}
 use Rattle.scope.specs.declared.side.Side.the-variants.{Left, Right}
-use Rattle.scope.specs.declared.side.Link.{Link}
 use Rattle.tidy.specs.Found.{Linked}
 
 -- at slot k

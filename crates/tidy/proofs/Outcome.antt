@@ -4,12 +4,11 @@ use mathlib.Core.Path.{_≡_, sym}
 use mathlib.Core.Bool.{true, cond}
 use mathlib.Core.List.{List}
 use Rattle.scope.specs.Table.{word, changeWord}
-use Rattle.scope.specs.Answers.{Done, refused, accepted}
+use Rattle.scope.specs.Answers.{refused, accepted}
 use Rattle.scope.specs.Sums.{soundGate}
 use Rattle.scope.specs.Sound.{soundTable}
-use Rattle.scope.specs.Tidy.{quiet, tidyFrom, tidied, tidyOf, Tidied}
+use Rattle.scope.specs.Tidy.{quiet, tidied, tidyOf}
 use Rattle.scope.specs.declared.answer.Refusal.{Refusal}
-use Rattle.scope.specs.declared.answer.Gate.{Gate}
 use Rattle.scope.specs.declared.answer.Gate.the-variants.{Shut, Open}
 use Rattle.words.specs.Ready.{Sized}
 use Rattle.words.proofs.Laws.{gate-passed}

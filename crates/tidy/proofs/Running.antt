@@ -1,17 +1,17 @@
 -- The loop of tidy under way: what is left to fire gives what the whole gives, and one law for each way on or out. Assumes nothing.
-use Prim.Native.Nat.{ℕ, zero, suc, _+_, _-_, _≤_, _<_}
+use Prim.Native.Nat.{ℕ, zero, suc, _+_, _-_, _≤_}
 use mathlib.Core.Path.{_≡_, refl, sym, _∙_, ap}
-use mathlib.Core.Bool.{Bool, true, false, cond}
+use mathlib.Core.Bool.{true, false}
 use mathlib.Core.List.{List}
 use native.Mathlib.Nat.{sub-zero}
 use native.Mathlib.Omega.{arith}
 use lib.ListN.{length}
-use Rattle.scope.specs.Tidy.{slotsFrom, passes, nextOf, quiet, firedAt, tidyFrom, Tidied}
+use Rattle.scope.specs.Tidy.{nextOf, quiet, firedAt, tidyFrom, Tidied}
 use Rattle.scope.specs.declared.outcome.Next.{Next}
 use Rattle.scope.specs.declared.outcome.Next.the-variants.{At, Nothing}
 use Rattle.words.specs.Ready.{Sized}
 use Rattle.fire.specs.Wrote.{Kept}
-use Rattle.tidy.specs.Found.{Found, Passing}
+use Rattle.tidy.specs.Found.{Found}
 use Rattle.tidy.specs.Running.{Due, Ran}
 
 -- `made` of the budget were fired, and t is the table now

@@ -1,15 +1,15 @@
 -- What a rule sees node after node is its nodes, where they are all there. Assumes nothing.
 use Prim.Native.Nat.{ℕ, _≤_}
 use mathlib.Core.Path.{_≡_, refl, sym, _∙_, ap}
-use mathlib.Core.Bool.{Bool, true, false, cond, not, _&&_}
+use mathlib.Core.Bool.{Bool, true, false, cond, not}
 use mathlib.Core.List.{List}
 use native.Mathlib.Omega.{arith}
 use borrow.Author.Tests.{eqb-false, leb-true}
-use lib.Dec.{leb, eqb}
+use lib.Dec.{eqb}
 use Rattle.scope.proofs.Bools.{and-r, by-bool}
 use Rattle.scope.specs.Numbers.{other, rootLink, ruleOf}
 use Rattle.scope.specs.Table.{slotAt, son}
-use Rattle.scope.specs.Rules.{guardAt, highestAt}
+use Rattle.scope.specs.Rules.{guardAt}
 use Rattle.scope.specs.Fire.{hasThird}
 use Rattle.scope.specs.Tidy.{nodesAt, present, holdsAt, dueAt, byRule, passes}
 use Rattle.scope.specs.declared.slot.Slot.{Slot}
@@ -17,9 +17,7 @@ use Rattle.scope.specs.declared.side.Side.{Side}
 use Rattle.scope.specs.declared.side.Link.{Link}
 use Rattle.scope.specs.declared.rule.Rule.{Rule}
 use Rattle.scope.specs.declared.rule.RuleIs.the-variants as rule-is
-use Rattle.scope.specs.declared.outcome.Nodes.{Nodes}
 use Rattle.tidy.specs.Sight.{names, sightThird, sightOf, judgeSight}
-use Rattle.tidy.specs.declared.test.Sight.{Sight}
 use Rattle.tidy.specs.declared.test.Sight.the-variants.{Missing, Seen}
 
 pub sight-is : (t : List ℕ) (c : ℕ) (r : Rule) (link : Link) (v : ℕ)

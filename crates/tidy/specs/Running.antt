@@ -3,7 +3,7 @@ use Prim.Native.Nat.{ℕ, _≤_}
 use mathlib.Core.Path.{_≡_}
 use mathlib.Core.Bool.{true}
 use mathlib.Core.List.{List}
-use Rattle.scope.specs.Tidy.{passes, tidyFrom, Tidied}
+use Rattle.scope.specs.Tidy.{passes, tidyFrom}
 use Rattle.words.specs.Ready.{Sized}
 
 -- rule n is due at slot v

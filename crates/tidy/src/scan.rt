@@ -4,9 +4,6 @@ use scope::Link;
 use scope::Next;
 use scope::Rule;
 use scope::Side;
-ghost use mathlib.Core.Path.{_≡_};
-ghost use Prim.Native.Nat.{_≤_};
-ghost use Rattle.scope.specs.Tidy.{linkTo};
 ghost use Rattle.words.specs.Ready.{Sized};
 ghost use Rattle.tidy.specs.Found.{Found, Linked};
 

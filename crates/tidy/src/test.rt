@@ -1,5 +1,4 @@
 // Whether a rule's guard holds at a slot, and whether its firing would be accepted too.
-use scope::Kind;
 use scope::Link;
 use scope::Nodes;
 use scope::Rule;

@@ -1,8 +1,7 @@
 -- The walk under way: what is left to walk is the whole walk, and one law for each way on or out. Assumes nothing.
-use Prim.Native.Nat.{ℕ, zero, suc, _+_, _-_, _≤_, _<_}
-use mathlib.Core.Path.{_≡_, refl, sym, _∙_}
+use Prim.Native.Nat.{ℕ, zero, suc, _+_, _-_, _≤_}
+use mathlib.Core.Path.{_≡_, sym, _∙_}
 use mathlib.Core.List.{List}
-use mathlib.Core.Bool.{Bool, true, false}
 use native.Mathlib.Omega.{arith}
 use native.Mathlib.Nat.{sub-zero}
 use borrow.Author.Tests.{eq-eqb, ne-eqb}
@@ -17,11 +16,10 @@ use Rattle.scope.specs.declared.side.Side.{Side}
 use Rattle.scope.specs.declared.side.Link.{Link}
 use Rattle.scope.specs.declared.outcome.Step.{Step}
 use Rattle.scope.specs.declared.outcome.Step.the-variants.{Here, Down, Broken}
-use Rattle.scope.specs.declared.outcome.Walk.{Walk}
 use Rattle.scope.specs.declared.outcome.Walk.the-variants.{Hit, Miss, Damage}
 use Rattle.words.specs.Ready.{Ready}
 use Rattle.words.proofs.Laws.{fit-left, fit-right}
-use Rattle.walk.specs.Walked.{Walked, Inside}
+use Rattle.walk.specs.Walked.{Walked}
 
 pub record Going (t : List ℕ) (c key at : ℕ) (link : Link) (seen : ℕ) : Type 0 where
   pub left : walkFrom t c key (c - seen) at link seen ≡ walkOf t c key

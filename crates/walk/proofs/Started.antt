@@ -4,7 +4,7 @@ use mathlib.Core.Path.{_≡_}
 use mathlib.Core.List.{List}
 use lib.ListN.{length, replicate}
 use Rattle.scope.specs.Table.{slotsIn}
-use Rattle.scope.specs.Answers.{gate, refused, accepted, Done}
+use Rattle.scope.specs.Answers.{gate, refused, accepted}
 use Rattle.scope.specs.Find.{startOf}
 use Rattle.scope.specs.declared.slots.Slots.{Slots}
 use Rattle.scope.specs.declared.slots.SlotsIs.the-variants.{Within, Outside}

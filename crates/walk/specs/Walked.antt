@@ -3,7 +3,6 @@ use Prim.Native.Nat.{ℕ, _≤_}
 use mathlib.Core.Path.{_≡_}
 use mathlib.Core.List.{List}
 use Rattle.scope.specs.Walk.{walkOf}
-use Rattle.scope.specs.declared.side.Link.{Link}
 use Rattle.scope.specs.declared.outcome.Walk.{Walk}
 use Rattle.scope.specs.declared.outcome.Walk.the-variants.{Hit, Miss, Damage}
 

@@ -1,7 +1,7 @@
 -- What a passed test tells: of the length, the header, a slot, an open gate. Assumes nothing.
-use Prim.Native.Nat.{ℕ, _+_, _*_, _≤_, _<_, _/_, _%_}
-use mathlib.Core.Path.{_≡_, refl, sym, _∙_}
-use mathlib.Core.Bool.{Bool, true, false, _&&_, _||_, cond, not}
+use Prim.Native.Nat.{ℕ, _≤_, _<_, _/_, _%_}
+use mathlib.Core.Path.{_≡_, refl}
+use mathlib.Core.Bool.{Bool, true, false, _&&_, not}
 use mathlib.Core.List.{List}
 use native.Mathlib.Omega.{arith}
 use borrow.Author.Tests.{leb-true, eqb-true, eqb-false}
@@ -9,7 +9,7 @@ use lib.ListN.{length}
 use lib.Dec.{eqb, leb}
 use Rattle.scope.proofs.Bools.{and-l, and-r, by-bool}
 use Rattle.scope.specs.Numbers.{slotsOf}
-use Rattle.scope.specs.Table.{word, rootWord, countWord, slotsIn, slotAt, son, linkAt, linkPlace, registerAt, registerPlace, InTable}
+use Rattle.scope.specs.Table.{word, rootWord, countWord, slotsIn, son, linkAt, linkPlace, registerAt, registerPlace, InTable}
 use Rattle.scope.specs.Fit.{stateOk, piecesOk, linkOk, fitSlot, headerOk}
 use Rattle.scope.specs.Answers.{gate, onSlots, admit}
 use Rattle.scope.specs.declared.slot.Slot.{Slot}
@@ -19,9 +19,8 @@ use Rattle.scope.specs.declared.slots.SlotsIs.the-variants.{Within, Outside}
 use Rattle.scope.specs.declared.side.Side.{Side}
 use Rattle.scope.specs.declared.side.Side.the-variants.{Left, Right}
 use Rattle.scope.specs.declared.side.Link.{Link}
-use Rattle.scope.specs.declared.answer.Gate.{Gate}
-use Rattle.scope.specs.declared.answer.Gate.the-variants.{Shut, Open}
-use Rattle.words.specs.Ready.{Headed, Sized, Ready}
+use Rattle.scope.specs.declared.answer.Gate.the-variants.{Open}
+use Rattle.words.specs.Ready.{Sized, Ready}
 
 -- a number of slots that is taken is from 1 to 4,095
 slots-in-range : (n : ℕ) (s : Slots) → slotsOf n ≡ Within s → (s .count ≡ n) × (1 ≤ n) × (n ≤ 4095)

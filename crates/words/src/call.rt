@@ -7,7 +7,6 @@ use scope::Slot;
 use scope::Slots;
 use scope::SlotsIs;
 ghost use mathlib.Core.Path.{_≡_};
-ghost use mathlib.Core.Bool.{Bool};
 ghost use Rattle.scope.specs.Table.{slotsIn};
 ghost use Rattle.scope.specs.Fit.{headerOk};
 ghost use Rattle.scope.specs.Answers.{codeOf, refusal, accepted, gate};
