@@ -93,4 +93,3 @@ short-decimal = decimal-ind Short (λ n h k l. omega arith) λ n t h ih k l. go 
 pub decimal-short : (n : ℕ) → n ≤ 4294967295 → length (decimal n) ≤ 10
 unfolding Short
 decimal-short n h = short-decimal n (omega arith) 9 (omega arith)
-

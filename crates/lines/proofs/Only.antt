@@ -110,4 +110,3 @@ number-only s at v i e = go (digitsOf (drop at s)) (text-only (drop at s)) e
             let small = leb-true (valueFrom 0 t) largest (d .1) in
             let x : t ≡ decimal v = only (ltb-true 0 (length t) (f .0)) (not-true (leadingZero t) (f .1)) (omega arith) ∙ ap decimal w in
             (omega (arith, w, small), x, sym p ∙ ap (λ (u : List ℕ). at + length u) x)
-

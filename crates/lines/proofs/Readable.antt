@@ -57,7 +57,7 @@ line-only s f a b c q = word (startsWith (f .name) s) refl
               text =
                   starts-split (f .name) s t
                   ∙ ap (λ (u : List ℕ). f .name ++ u)
-                      (ap (λ (k : ℕ). drop k s) (sym (zero-add (length (f .name)))) ∙ i .text ∙ rw (d, append-nil));
+                  (ap (λ (k : ℕ). drop k s) (sym (zero-add (length (f .name)))) ∙ i .text ∙ rw (d, append-nil));
             }
 
     word : (t : Bool) → startsWith (f .name) s ≡ t

@@ -35,7 +35,7 @@ first-none t c old at = record { put = record { holds = refl; place = sym (add-z
 module _ {t : List ℕ} {c : ℕ} (w : Whole t c) where
   lines-more : (i : ℕ) → i < word t countWord
       → recordLines t (take (i + 1) (slotsInOrder (treeIn t c)))
-        ≡ recordLines t (take i (slotsInOrder (treeIn t c))) ++ rankLine t (rankOf (i + 1) (treeIn t c))
+      ≡ recordLines t (take i (slotsInOrder (treeIn t c))) ++ rankLine t (rankOf (i + 1) (treeIn t c))
   unfolding rankLine recordLines
   lines-more i h =
       let l = slotsInOrder (treeIn t c) in

@@ -26,10 +26,11 @@ add-put-rank c = omega arith
 put-rank-requires : tie.Need-put-rank-requires Inv-loop μ-loop
 put-rank-requires c κs =
     let s = c .before .before .before .before .before .before in
-    let b = c .before .before .loop in
-    (omega arith,
-    s .pre .0,
-    omega (arith, s .pre .1, b .inv .1, b .inv .2 .within, c .before .before .before .records .ensures, count-most (s .pre .0), c .before .loop-test .taken))
+    let b = c .before .before .loop in (
+      omega arith,
+      s .pre .0,
+      omega (arith, s .pre .1, b .inv .1, b .inv .2 .within, c .before .before .before .records .ensures, count-most (s .pre .0), c .before .loop-test .taken),
+    )
 
 add-i : tie.Need-add-i Inv-loop μ-loop
 add-i c = omega arith

@@ -62,7 +62,7 @@ record-form-requires-2 c κs = search needs
 -- src/form.rt:86:1
 returns : tie.Need-returns
 unfolding formOf
-returns c = 
+returns c =
     let fire = form-tried _ _ _ (c .before .before .before .before .before .before .before .before .before .before .name .ensures) (c .before .before .before .before .before .before .three .ensures) (c .before .before .before .before .before .end .ensures) (c .before .before .before .before .made .ensures) in
     tried-then _ _ _ _ (c .record-form2 .ensures) (tried-then _ _ _ _ (c .before .before .record-form .ensures) fire)
 
