@@ -54,3 +54,11 @@ pub fn step(t: &mut [u32], line: &[u8], out: &mut [u8], at: usize) -> usize
     let reply = carry_out(t, lines::parse(line));
     put_reply(t, reply, out, at)
 }
+
+// The same for 15 slots, in a buffer that holds the longest list of them.
+pub fn step_of_15(t: &mut [u32; 124], line: &[u8], out: &mut [u8; 3343]) -> usize
+    ensures { λ n. ⌜ PutIn (now (out .entry)) 0 (stepText (now (t .entry)) (now (line .entry))) (now (out .exit)) n 3343 ⌝ }
+    ensures { λ _. ⌜ now (t .exit) ≡ stepTable (now (t .entry)) (now (line .entry)) ⌝ }
+{
+    step(t, line, out, 0)
+}
