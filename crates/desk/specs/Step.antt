@@ -1,0 +1,70 @@
+-- One step of `stand`, and a whole run (document 01, "The program").
+use Prim.Native.Nat.{ℕ, zero, suc, _+_}
+use mathlib.Core.Bool.{cond}
+use mathlib.Core.List.{List, [], _++_}
+use lib.ListN.{length, drop, replicate}
+use lib.Dec.{ltb, eqb}
+use Rattle.scope.specs.Answers.{refusal}
+use Rattle.scope.specs.Calls.{Call, find, post, amend, drop as remove, rank, total, worth, fire, tidy, answerOf, tableOf}
+use Rattle.scope.specs.declared.answer.Refusal.the-variants as refusals
+use Rattle.lines.specs.Text.{firstLine}
+use Rattle.lines.specs.Form.{commandOf}
+use Rattle.lines.specs.declared.command.Command.{Command}
+use Rattle.lines.specs.declared.command.Command.the-variants.{Post, Amend, Drop, Find, Rank, Total, Worth, Fire, Tidy, List as Listing, Unreadable}
+use Rattle.printing.specs.Line.{answerLine}
+use Rattle.listing.specs.List.{listText}
+use Rattle.desk.specs.declared.Reply.{Reply}
+use Rattle.desk.specs.declared.Reply.the-variants.{Say, List as ListIt}
+
+-- what a command wishes: a call of the library, the list, or nothing that can be read
+pub data Wish : Type 0 where
+  call : Call → Wish
+  list : Wish
+  nothing : Wish
+
+unfoldable pub wishOf : Command → Wish
+wishOf (Post key pieces state) = call (post key pieces state)
+wishOf (Amend key pieces state) = call (amend key pieces state)
+wishOf (Drop key) = call (remove key)
+wishOf (Find key) = call (find key)
+wishOf (Rank r) = call (rank r)
+wishOf (Total key) = call (total key)
+wishOf Worth = call worth
+wishOf (Fire rule holder side) = call (fire rule holder side)
+wishOf (Tidy budget) = call (tidy budget)
+wishOf Listing = list
+wishOf Unreadable = nothing
+
+-- what is to be printed, and the table afterwards
+unfoldable pub replyOf : List ℕ → Wish → Reply
+replyOf t (call x) = Say (answerOf x t)
+replyOf t list = ListIt
+replyOf t nothing = Say (refusal refusals.Unreadable)
+
+unfoldable pub tableAfter : List ℕ → Wish → List ℕ
+tableAfter t (call x) = tableOf x t
+tableAfter t list = t
+tableAfter t nothing = t
+
+unfoldable pub replyText : List ℕ → Reply → List ℕ
+replyText t (Say a) = answerLine a
+replyText t ListIt = listText t
+
+-- a line: what it prints, and the table after it
+unfoldable pub stepTable : List ℕ → List ℕ → List ℕ
+stepTable t line = tableAfter t (wishOf (commandOf line))
+
+unfoldable pub stepText : List ℕ → List ℕ → List ℕ
+stepText t line = replyText (stepTable t line) (replyOf t (wishOf (commandOf line)))
+
+-- the lines of an input one after the other, at most `more` of them
+unfoldable pub linesText : ℕ → List ℕ → List ℕ → List ℕ
+linesText zero t s = []
+linesText (suc more) t s =
+    cond (eqb (length s) 0) []
+    (stepText t (firstLine s) ++ linesText more (stepTable t (firstLine s)) (drop (length (firstLine s) + 1) s))
+
+-- all that `stand` prints: it starts with 15 slots, and an input over 65,536 bytes is one unreadable line
+unfoldable pub runText : List ℕ → List ℕ
+runText s =
+    cond (ltb 65536 (length s)) (answerLine (refusal refusals.Unreadable)) (linesText (length s) (replicate 124 0) s)

@@ -1,0 +1,110 @@
+// The whole program: reads standard input, and prints what each line answers.
+use crate::step;
+use libc::STDIN_FILENO;
+use libc::STDOUT_FILENO;
+use scope::Refusal;
+ghost use mathlib.Core.Path.{_≡_};
+ghost use Prim.Native.Nat.{_+_, _≤_};
+ghost use lib.ListN.{length};
+
+// Writes the buffer out where it has no room for the longest answer: the place to go on at.
+fn room(out: &[u8], at: usize) -> usize
+    requires { ⌜ (3343 ≤ length (now out)) × (at ≤ length (now out)) ⌝ }
+    ensures { λ r. ⌜ r + 3343 ≤ length (now (out .entry)) ⌝ }
+{
+    if out.len() - at < 3343 {
+        io::write_all(STDOUT_FILENO, &out[..at]);
+        return 0;
+    }
+    at
+}
+
+// Answers each line of the input.
+fn answer_all(input: &[u8], t: &mut [u32], out: &mut [u8])
+    requires { ⌜ (3343 ≤ length (now out)) × (length (now t) ≡ 124) ⌝ }
+{
+    let mut at = 0;
+    let mut from = 0;
+    while from < input.len() {
+        let end = lines::line_end(input, from);
+        let p = room(out, at);
+        at = step(t, &input[from..end], out, p);
+        from = end + 1;
+    }
+    io::write_all(STDOUT_FILENO, &out[..at]);
+}
+
+// What came of reading.
+pub struct Got {
+    pub count: usize,
+    pub failed: bool,
+}
+
+// Reads once into buf: no bytes at the end of the input.
+fn read_once(buf: &mut [u8]) -> Got
+    ensures { λ r. ⌜ r .count ≤ length (now (buf .entry)) ⌝ }
+{
+    let got = libc::read(STDIN_FILENO, buf);
+    if got < 0 {
+        return Got {
+            count: 0,
+            failed: true,
+        };
+    }
+    Got {
+        count: io::count(got, buf),
+        failed: false,
+    }
+}
+
+// Reads once into buf from n on.
+fn read_at(buf: &mut [u8], n: usize) -> Got
+    requires { ⌜ n ≤ length (now buf) ⌝ }
+    ensures { λ r. ⌜ n + r .count ≤ length (now (buf .entry)) ⌝ }
+{
+    read_once(&mut buf[n..])
+}
+
+// Reads standard input until it ends, a read fails or buf is full.
+fn read_input(buf: &mut [u8]) -> Got
+    ensures { λ r. ⌜ r .count ≤ length (now (buf .entry)) ⌝ }
+{
+    let mut n = 0;
+    while n < buf.len() {
+        let got = read_at(buf, n);
+        if got.count == 0 {
+            return Got {
+                count: n,
+                failed: got.failed,
+            };
+        }
+        n += got.count;
+    }
+    Got {
+        count: n,
+        failed: false,
+    }
+}
+
+// An input that is too long or cannot be read is one unreadable line.
+fn refuse_all() {
+    let mut out = [0u8; 133];
+    let n = printing::put_answer(&mut out, 0, words::refuse(Refusal::Unreadable));
+    io::write_all(STDOUT_FILENO, &out[..n]);
+}
+
+// Reads all, and then answers all.
+pub fn run() {
+    let mut input = [0u8; 65537];
+    let got = read_input(&mut input);
+    let n = got.count;
+    if got.failed {
+        return refuse_all();
+    }
+    if 65536 < n {
+        return refuse_all();
+    }
+    let mut t = [0u32; 124];
+    let mut out = [0u8; 16384];
+    answer_all(&input[..n], &mut t, &mut out);
+}

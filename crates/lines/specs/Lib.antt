@@ -1,0 +1,6 @@
+pub mod Text
+pub mod Decimal
+pub mod Number
+pub mod Read
+pub mod Form
+pub mod Printed
