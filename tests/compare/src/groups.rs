@@ -20,7 +20,7 @@ pub const GROUPS: [(&str, u64, Work); 22] = [
     ("sound, any shape and registers", 80, |run, calls| rows(run, calls, 25, |dice| any_sound(dice, 40))),
     ("left and right chains", 50, |run, calls| rows(run, calls, 25, chain)),
     ("zigzags", 40, |run, calls| rows(run, calls, 25, zigzag)),
-    ("true registers, so that rotations apply", 70, |run, calls| rows(run, calls, 15, ready)),
+    ("registers on which rotations apply", 70, |run, calls| rows(run, calls, 15, ready)),
     ("extreme registers", 80, |run, calls| rows(run, calls, 15, extreme)),
     ("firings keep the records and lower the worth", 40, lowering),
     ("quiet tables hold their true heights", 40, quiet),
@@ -92,7 +92,12 @@ fn zigzag(dice: &mut Dice) -> Vec<u32> {
 fn ready(dice: &mut Dice) -> Vec<u32> {
     let (slots, count) = small_size(dice, 20);
     let shape = dice.pick(&[Shape::Random, Shape::Random, Shape::Lopsided, Shape::Zigzag]);
-    sound(dice, slots, count, shape, Registers::True)
+    let how = dice.pick(&[Registers::True, Registers::Near]);
+    let mut words = sound(dice, slots, count, shape, how);
+    for _ in 0..3 {
+        prime(dice, &mut words);
+    }
+    words
 }
 
 fn extreme(dice: &mut Dice) -> Vec<u32> {
@@ -131,7 +136,7 @@ fn quiet(run: &mut Run, calls: u64) -> Result<(), Differs> {
 fn lowering(run: &mut Run, calls: u64) -> Result<(), Differs> {
     let keys = |words: &[u32]| in_order(words).iter().map(|&k| get(words, k, KEY)).collect::<Vec<_>>();
     while run.calls < calls {
-        let words = any_sound(&mut run.dice, 12);
+        let words = if run.dice.chance(1, 3) { any_sound(&mut run.dice, 12) } else { ready(&mut run.dice) };
         for _ in 0..8 {
             let mut bench = Bench::new(&words);
             let call = call_named(&mut run.dice, &words, "fire");
@@ -151,7 +156,7 @@ fn lowering(run: &mut Run, calls: u64) -> Result<(), Differs> {
 fn every_firing(run: &mut Run, calls: u64) -> Result<(), Differs> {
     while run.calls < calls {
         let words = match run.dice.below(4) {
-            0 => any_sound(&mut run.dice, 5),
+            0 => ready(&mut run.dice),
             1 => extreme(&mut run.dice),
             2 => damage::tangle(&mut run.dice),
             _ => damage::faulty(&mut run.dice, damage::several),

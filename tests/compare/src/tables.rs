@@ -1,6 +1,7 @@
 //! Sound tables of many shapes, built word by word: chains, zigzags, bushes; true, stale or extreme registers.
 
 use crate::dice::Dice;
+use crate::firing::local_height;
 use crate::paper::*;
 
 #[derive(Clone, Copy)]
@@ -130,4 +131,32 @@ pub fn any_sound(dice: &mut Dice, most: usize) -> Vec<u32> {
     let (slots, count) = small_size(dice, most);
     let (shape, how) = (dice.pick(&SHAPES), dice.pick(&REGISTERS));
     sound(dice, slots, count, shape, how)
+}
+
+/// Sets the registers about one record so that a rotation there is likely to apply.
+pub fn prime(dice: &mut Dice, words: &mut [u32]) {
+    let order = downward(words);
+    if order.is_empty() {
+        return;
+    }
+    let sons = |k, side| if k == 0 { 0 } else { link(words, k, side) };
+    let full = |&(v, side): &(usize, usize)| sons(sons(v, side), 0) != 0 && sons(sons(v, side), 1) != 0;
+    let Some((v, side)) = (0..12).map(|_| (dice.pick(&order).0, dice.below(2))).find(full) else { return };
+    let u = link(words, v, side);
+    let height = dice.between(1, 4) as u32;
+    for (below, register) in [(side, height), (1 - side, height + dice.pick(&[0, 0, 1]))] {
+        let son = link(words, u, below);
+        let true_enough = if dice.chance(1, 2) { local_height(words, son) as u32 } else { register };
+        set_beside_son(words, u, below, true_enough.min(MOST_HEIGHT));
+    }
+    let top = (local_height(words, u) as u32).min(MOST_HEIGHT);
+    set_beside_son(words, v, side, top);
+    set_beside_son(words, v, 1 - side, top.saturating_sub(dice.pick(&[1, 2, 2, 3])));
+}
+
+/// Writes a register if a son is beside it.
+fn set_beside_son(words: &mut [u32], k: usize, side: usize, register: u32) {
+    if link(words, k, side) != 0 {
+        words[place(k, HEIGHT[side])] = register;
+    }
 }
