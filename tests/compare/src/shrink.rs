@@ -7,7 +7,7 @@ use std::time::{Duration, Instant};
 
 /// Looks for a smaller case that still differs, for at most a few seconds.
 pub fn shrink(found: Difference) -> Difference {
-    let end = Instant::now() + Duration::from_secs(20);
+    let end = Instant::now() + Duration::from_secs(6);
     let mut best = found;
     loop {
         let before = best.before.clone();
