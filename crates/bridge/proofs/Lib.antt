@@ -1,0 +1,2 @@
+-- The laws of words and trees, from the ground up.
+pub mod Edited

@@ -1,0 +1,2 @@
+-- What the laws of words and trees speak of.
+pub mod Edit
