@@ -15,7 +15,7 @@ use Rattle.scope.specs.declared.side.Side.{Side}
 use Rattle.scope.specs.declared.side.Side.the-variants.{Left, Right}
 use Rattle.scope.specs.declared.slot.Slot.{Slot}
 use Rattle.words.specs.Ready.{Sized}
-use Rattle.bridge.specs.Edit.{Part, sonOn, registerOn, offset, withPart, Edit, placeOf, writes, edited, rooted}
+use Rattle.bridge.specs.Edit.{Part, sonOn, registerOn, offset, shape, withPart, Edit, placeOf, writes, edited, rooted}
 
 -- a slot of eight numbers
 abbrev ofWords : (ℕ → ℕ) → Slot
@@ -40,6 +40,7 @@ abbrev changed : Part → ℕ → (ℕ → ℕ) → ℕ → ℕ
 changed p x g f = cond (eqb f (offset p)) x (g f)
 
 part-of : (p : Part) (x : ℕ) (g : ℕ → ℕ) → ofWords (changed p x g) ≡ withPart p x (ofWords g)
+unfolding withPart shape
 part-of (sonOn Left) x g = refl
 part-of (sonOn Right) x g = refl
 part-of (registerOn Left) x g = refl

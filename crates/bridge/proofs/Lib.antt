@@ -1,2 +1,3 @@
 -- The laws of words and trees, from the ground up.
 pub mod Edited
+pub mod Looks

@@ -25,7 +25,7 @@ offset (sonOn s) = linkPlace s
 offset (registerOn s) = registerPlace s
 
 -- a slot of the record in x, with these links and registers seen from a side
-abbrev pub shape : Side → Slot → ℕ → ℕ → Pair → Slot
+unfoldable pub shape : Side → Slot → ℕ → ℕ → Pair → Slot
 shape Left x near far p = record {
   state = x .state;
   key = x .key;
@@ -48,7 +48,7 @@ shape Right x near far p = record {
 }
 
 -- a slot with another number in a part
-abbrev pub withPart : Part → ℕ → Slot → Slot
+unfoldable pub withPart : Part → ℕ → Slot → Slot
 withPart (sonOn s) n x = shape s x n (son x (other s)) (seen s x)
 withPart (registerOn s) n x = shape s x (son x s) (son x (other s)) (record { near = n; far = seen s x .far })
 
