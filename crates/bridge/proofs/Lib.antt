@@ -1,3 +1,4 @@
 -- The laws of words and trees, from the ground up.
 pub mod Edited
 pub mod Looks
+pub mod Outside

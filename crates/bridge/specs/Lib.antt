@@ -1,2 +1,3 @@
 -- What the laws of words and trees speak of.
 pub mod Edit
+pub mod Below
