@@ -2,3 +2,4 @@
 pub mod Edited
 pub mod Looks
 pub mod Outside
+pub mod Turns

@@ -7,7 +7,7 @@ use native.Mathlib.Omega.{arith}
 use native.Mathlib.Decide.{ℕ-discrete, decLe}
 use lib.Dec.{eqb}
 use borrow.Author.Tests.{eq-eqb, ne-eqb}
-use Rattle.scope.specs.Table.{word, rootWord, slotAt, son, linkAt}
+use Rattle.scope.specs.Table.{word, rootWord, base, linkPlace, slotAt, son, linkAt}
 use Rattle.scope.specs.Tree.{Tree, times, same}
 use Rattle.scope.specs.Sound.{Spells}
 use Rattle.scope.specs.declared.side.Side.{Side}
@@ -65,7 +65,7 @@ pub link-son : (t : List ℕ) (l : Link) → 1 ≤ l .holder → word t (linkAt 
 unfolding linkAt slotAt
 link-son t l i = rw (ne-eqb (l .holder) 0 (λ q. omega arith)) (on (l .side))
   where
-    on : (s : Side) → word t (Rattle.scope.specs.Table.base (l .holder) + Rattle.scope.specs.Table.linkPlace s) ≡ son (slotAt t (l .holder)) s
+    on : (s : Side) → word t (base (l .holder) + linkPlace s) ≡ son (slotAt t (l .holder)) s
     on Left = unfold slotAt in refl
     on Right = unfold slotAt in refl
 
