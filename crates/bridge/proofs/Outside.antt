@@ -41,24 +41,29 @@ unfolding edited
 edited-away k [] y a = refl
 edited-away k (e ∷ es) y a = rw (ne-eqb k (e .slot) (a .0)) (edited-away k es y (a .1))
 
--- they all stand in the tree S, in a table of c slots
+-- slot k of a table of c stands in the tree S; so do all that are edited
+pub record StandsIn (c : ℕ) (S : Tree) (k : ℕ) : Type 0 where
+  pub first : 1 ≤ k
+  pub most : k ≤ c
+  pub once : 1 ≤ times k S
+
 abbrev pub InTree : ℕ → Tree → List Edit → Type 0
 InTree c S [] = Unit {0}
-InTree c S (e ∷ es) = (1 ≤ e .slot) × (e .slot ≤ c) × (1 ≤ times (e .slot) S) × InTree c S es
+InTree c S (e ∷ es) = StandsIn c S (e .slot) × InTree c S es
 
 module _ (c : ℕ) (S : Tree) where
   pub in-inside : (es : List Edit) → InTree c S es → Inside c es
   in-inside [] i = tt
-  in-inside (e ∷ es) i = (i .1, in-inside es (i .3))
+  in-inside (e ∷ es) i = (i .0 .most, in-inside es (i .1))
 
   in-away : (k : ℕ) → times k S ≡ 0 → (es : List Edit) → InTree c S es → Away k es
   in-away k z [] i = tt
-  in-away k z (e ∷ es) i = (λ q. omega (arith, ap (λ (j : ℕ). times j S) q), in-away k z es (i .3))
+  in-away k z (e ∷ es) i = (λ q. omega (arith, i .0 .once, ap (λ (j : ℕ). times j S) q), in-away k z es (i .1))
 
   in-rooted : (x : ℕ) (es : List Edit) → InTree c S es → rooted es x ≡ x
   unfolding rooted
   in-rooted x [] i = refl
-  in-rooted x (e ∷ es) i = rw (ne-eqb (e .slot) 0 (λ q. omega arith)) (in-rooted x es (i .3))
+  in-rooted x (e ∷ es) i = rw (ne-eqb (e .slot) 0 (λ q. omega (arith, i .0 .first))) (in-rooted x es (i .1))
 
 -- the number in a link is the holder's son
 pub link-son : (t : List ℕ) (l : Link) → 1 ≤ l .holder → word t (linkAt l) ≡ son (slotAt t (l .holder)) (l .side)
