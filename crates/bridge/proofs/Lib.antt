@@ -3,3 +3,4 @@ pub mod Edited
 pub mod Looks
 pub mod Outside
 pub mod Turns
+pub mod Twice
