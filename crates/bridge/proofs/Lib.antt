@@ -4,3 +4,4 @@ pub mod Looks
 pub mod Outside
 pub mod Turns
 pub mod Twice
+pub mod Aims

@@ -1,3 +1,4 @@
 -- What the laws of words and trees speak of.
 pub mod Edit
 pub mod Below
+pub mod Alike
