@@ -5,3 +5,4 @@ pub mod Outside
 pub mod Turns
 pub mod Twice
 pub mod Aims
+pub mod Along

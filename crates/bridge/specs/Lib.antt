@@ -2,3 +2,4 @@
 pub mod Edit
 pub mod Below
 pub mod Alike
+pub mod Leads

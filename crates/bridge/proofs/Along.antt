@@ -1,0 +1,106 @@
+-- At the end of any way: a firing on words is that on the tree, accepted on the one exactly if on the other. Assumes nothing.
+use Prim.Native.Nat.{ℕ, _+_, _≤_}
+use mathlib.Core.Path.{_≡_, refl, sym, _∙_, ap}
+use mathlib.Core.Bool.{Bool, true, false, _||_, not}
+use mathlib.Core.Option.{Option, none, some}
+use mathlib.Core.List.{List, [], _∷_}
+use native.Mathlib.Omega.{arith}
+use native.Mathlib.Decide.{ℕ-discrete}
+use lib.Dec.{eqb, leb}
+use borrow.Author.Tests.{eq-eqb, ne-eqb, leb-true, eqb-true}
+use Rattle.scope.proofs.Bools.{and-l, and-r, by-bool, neither}
+use Rattle.scope.specs.Numbers.{other, mostHeight}
+use Rattle.scope.specs.Table.{word, slotAt, son, linkAt}
+use Rattle.scope.specs.Fit.{stateOk, linkOk, fitSlot}
+use Rattle.scope.specs.Tree.{Batch, Tree, times, same}
+use Rattle.scope.specs.Rules.{seen}
+use Rattle.scope.specs.Fire.{aim, aimV}
+use Rattle.scope.specs.declared.rule.Pair.{Pair}
+use Rattle.scope.specs.declared.rule.Rule.{Rule}
+use Rattle.scope.specs.declared.side.Side.{Side}
+use Rattle.scope.specs.declared.side.Link.{Link}
+use Rattle.scope.specs.declared.outcome.Firing.{Firing}
+use Rattle.scope.specs.declared.outcome.Firing.the-variants.{Refuse, Fire}
+use Rattle.words.proofs.Laws.{fit-son, fits}
+use Rattle.sound.proofs.Frame.{frame}
+use Rattle.tree.specs.Rewrite.{mk, hung, acceptAt, rewriteAt, within}
+use Rattle.tree.specs.Place.{subtree}
+use Rattle.tree.proofs.Steps.{on-top, top-is}
+use Rattle.tree.proofs.Sides.{times-mk}
+use Rattle.bridge.specs.Edit.{sonOn, withPart, shape}
+use Rattle.bridge.specs.Below.{Hangs, Below}
+use Rattle.bridge.specs.Alike.{Alike}
+use Rattle.bridge.specs.Leads.{linkAlong}
+use Rattle.bridge.proofs.Looks.{shape-self, near-son, fit-from, Looks, look, spell}
+use Rattle.bridge.proofs.Outside.{same-one, first-slot, link-son, steady, steady-root}
+use Rattle.bridge.proofs.Turns.{link-on}
+use Rattle.bridge.proofs.Aims.{same-at}
+
+low-register : (c x h : ℕ) → linkOk c x h ≡ true → h ≤ mostHeight
+unfolding linkOk
+low-register c x h e = leb-true _ _ (and-r (leb x c) _ (and-l _ _ e))
+
+-- a node over its near son, at link l
+module _ {t : List ℕ} {c : ℕ} (l : Link) (s : Side) (d : Batch) (p : Pair) (near far : Tree) (h : Hangs t c l (mk s d p near far)) where
+  abbrev x : ℕ
+  x = word t (linkAt l)
+
+  -- the link to the son
+  abbrev down : Link
+  down = record { holder = x; side = s }
+
+  top : Looks t c x s d p near far
+  top = look t c x d p near far s (h .spells)
+
+  total : (k : ℕ) → times k (mk s d p near far) ≡ same k x + (times k near + times k far)
+  total k = times-mk s d p near far k ∙ rw (ap (λ (b : Batch). b .slot) (top .holds))
+
+  down-is : word t (linkAt down) ≡ son (slotAt t x) s
+  down-is = link-son t down (top .there)
+
+  pub hangs-down : Hangs t c down near
+  hangs-down =
+      record {
+        sized = h .sized;
+        holder = h .most;
+        most = rw down-is (fit-son c (slotAt t x) s (top .fit));
+        spells = rw down-is (top .nearSon);
+        once = λ k. omega (arith, total k, h .once k);
+        apart = omega (arith, total x, h .once x, same-one x x refl);
+      }
+
+  pub holder-fit : fitSlot c (slotAt t x) ≡ true
+  holder-fit = top .fit
+
+  module _ {t′ : List ℕ} {near′ : Tree} (b : Below t t′ c down near near′) where
+    -- slots outside the near son and other than x stay
+    stay : (k : ℕ) → 1 ≤ k → times k near ≡ 0 → (k ≡ x → ⊥) → slotAt t′ k ≡ slotAt t k
+    stay k i z ne = b .slots k i z ∙ rw (ne-eqb k x ne)
+
+    slot-x : slotAt t′ x ≡ shape s (slotAt t x) (b .top) (son (slotAt t x) (other s)) (seen s (slotAt t x))
+    slot-x =
+        b .slots x (top .there) (omega (arith, total x, h .once x, same-one x x refl))
+        ∙ rw (eq-eqb x x refl)
+        (ap (withPart (sonOn s) (b .top)) (sym (shape-self s (slotAt t x))) ∙ near-son s (slotAt t x) _ _ _ (b .top))
+
+    -- a change below the son's link is one below the node's
+    pub above : Below t t′ c l (mk s d p near far) (mk s d p near′ far)
+    above =
+        let f = fit-from c (slotAt t x) (top .fit) s in
+        record {
+          sized = b .sized;
+          top = x;
+          first = top .there;
+          most = h .most;
+          spells = rw (top .registers)
+              (spell t′ c x d _ near′ far s (slotAt t x) (b .top) _ (top .there) slot-x
+              (f .other-links (b .top) _ _ (link-on c (b .top) _ (b .first) (b .most) (low-register c _ _ (f .near))) (f .far))
+              (top .holds) (b .spells)
+              (frame t t′ c _ far
+              (λ k i. stay k (first-slot t c _ far (top .farSon) k i) (omega (arith, total k, h .once k))
+              (λ q. omega (arith, total k, h .once k, same-one k x q)))
+              (top .farSon)));
+          slots = λ k i z. stay k i (omega (arith, total k)) (λ q. omega (arith, total k, same-one k x q)) ∙ steady t l k i;
+          root = b .root ∙ rw (ne-eqb x 0 (λ q. omega (arith, top .there))) (steady-root t l);
+          head = b .head;
+        }
