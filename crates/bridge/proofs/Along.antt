@@ -104,3 +104,45 @@ module _ {t : List ℕ} {c : ℕ} (l : Link) (s : Side) (d : Batch) (p : Pair) (
           root = b .root ∙ rw (ne-eqb x 0 (λ q. omega (arith, top .there))) (steady-root t l);
           head = b .head;
         }
+
+-- the holder of a link is a fit slot, or it is the root's link
+abbrev pub Held : List ℕ → ℕ → Link → Type 0
+Held t c l = (eqb (l .holder) 0 || fitSlot c (slotAt t (l .holder))) ≡ true
+
+some-state : (x : ℕ) → stateOk x ≡ true → eqb x 0 ≡ false
+unfolding stateOk
+some-state x e = by-bool (eqb x 0) (λ p. neither e (rw (eqb-true x 0 p) refl)) (λ p. p)
+
+-- such a holder stops no firing
+aim-held : (t : List ℕ) (c : ℕ) (r : Rule) (l : Link) → Held t c l → aim t c r l ≡ aimV t c r l
+unfolding aim
+aim-held t c r l e =
+    by-bool (eqb (l .holder) 0)
+    (λ p. simp p)
+    (λ p. let f : fitSlot c (slotAt t (l .holder)) ≡ true = simp p at e in
+    simp (p, f, some-state _ (fits c (slotAt t (l .holder)) f .state)))
+
+-- what is alike for a son is so for its node
+hung-alike : (t : List ℕ) (Q R : Tree → List ℕ → Type 0) (s : Side) (d : Batch) (p : Pair) (far : Tree) (o : Option Tree) (f : Firing)
+    → ((near : Tree) (t′ : List ℕ) → Q near t′ → R (mk s d p near far) t′) → Alike t Q o f → Alike t R (hung s d p o far) f
+hung-alike t Q R s d p far none (Refuse why) up a = a
+hung-alike t Q R s d p far none (Fire r n) up a = a
+hung-alike t Q R s d p far (some near) (Refuse why) up a = a
+hung-alike t Q R s d p far (some near) (Fire r n) up a = up near _ a
+
+-- ALONG A WAY: on words as on the tree
+pub same-along : {t : List ℕ} {c : ℕ} (r : Rule) (way : List Side) (l : Link) (T S : Tree) → Hangs t c l T → Held t c l
+    → subtree way T ≡ some S
+    → Alike t (λ T′ t′. Below t t′ c l T T′) (acceptAt way r T) (aim t c r (linkAlong t way l))
+unfolding subtree rewriteAt linkAlong
+same-along {t} {c} r [] l T S h g e = rw (aim-held t c r l g) (same-at t c l r T h)
+same-along {t} {c} r (s ∷ way) l T S h g e =
+    on-top s T S _ e
+    (λ X. Hangs t c l X → Alike t (λ T′ t′. Below t t′ c l X T′) (acceptAt (s ∷ way) r X) (aim t c r (linkAlong t (s ∷ way) l)))
+    (λ d p near far q k.
+    let held : Held t c (record { holder = word t (linkAt l); side = s })
+        = by-bool (eqb (word t (linkAt l)) 0) (λ z. simp z) (λ z. simp z (holder-fit l s d p near far k)) in
+    simp top-is
+    (hung-alike t _ _ s d p far (acceptAt way r near) _ (λ near′ t′ b. above l s d p near far k b)
+    (same-along r way (record { holder = word t (linkAt l); side = s }) near S (hangs-down l s d p near far k) held q)))
+    h
