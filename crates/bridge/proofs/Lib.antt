@@ -6,3 +6,5 @@ pub mod Turns
 pub mod Twice
 pub mod Aims
 pub mod Along
+pub mod Ways
+pub mod Fires

@@ -3,3 +3,4 @@ pub mod Edit
 pub mod Below
 pub mod Alike
 pub mod Leads
+pub mod Fired
