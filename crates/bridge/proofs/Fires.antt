@@ -17,6 +17,8 @@ use Rattle.scope.specs.Fire.{aim}
 use Rattle.scope.specs.declared.rule.Rule.{Rule}
 use Rattle.scope.specs.declared.side.Side.{Side}
 use Rattle.scope.specs.declared.side.Link.{Link}
+use Rattle.scope.specs.declared.slot.Slot.{Slot}
+use Rattle.scope.specs.declared.answer.Refusal.the-variants.{GuardFails}
 use Rattle.scope.specs.declared.outcome.Firing.{Firing}
 use Rattle.scope.specs.declared.outcome.Firing.the-variants.{Refuse, Fire}
 use Rattle.words.specs.Ready.{Sized}
@@ -43,6 +45,12 @@ new-header t t′ c e r h =
     let count = and-r (leb (word t rootWord) c) _ (and-l _ _ e) in
     let zero = and-r (leb (word t rootWord) c && leb (word t countWord) c) _ e in
     rw (le-leb (word t′ rootWord) c r, h 1 (omega arith) (omega arith), h 3 (omega arith) (omega arith), count, zero) refl
+
+-- eight zeros begin with one
+blank-state : (x : Slot) → blankSlot x ≡ true → eqb (x .state) 0 ≡ true
+unfolding blankSlot
+blank-state x e =
+    and-l _ _ (and-l _ _ (and-l _ _ (and-l _ _ (and-l _ _ (and-l _ _ (and-l _ _ e))))))
 
 module _ {t : List ℕ} {c : ℕ} (w : Whole t c) where
   abbrev T : Tree
@@ -78,3 +86,27 @@ module _ {t : List ℕ} {c : ℕ} (w : Whole t c) where
     where
       stay : (k : ℕ) → 1 ≤ k → times k T ≡ 0 → slotAt t′ k ≡ slotAt t k
       stay k i z = b .slots k i z ∙ rw (ne-eqb k 0 (λ q. omega arith))
+
+  -- what comes out below the root leaves the table sound
+  sound-alike : (r : Rule) (way : List Side) (o : Option Tree) (f : Firing) → acceptAt way r T ≡ o
+      → Alike t (λ T′ t′. Below t t′ c rootLink T T′) o f → Alike t (λ T′ t′. Fired t t′ c T T′) o f
+  sound-alike r way none (Refuse why) e a = a
+  sound-alike r way none (Fire q n) e a = a
+  sound-alike r way (some T′) (Refuse why) e a = a
+  sound-alike r way (some T′) (Fire q n) e a = still-sound a (keeps (within mostHeight) way r T T′ e .records)
+
+  -- ON A SOUND TABLE, at the link that a way leads to: accepted on words exactly if on the tree, and then they spell what comes of it
+  pub same-way : (r : Rule) (l : Link) (p : Leads t rootLink T l)
+      → Alike t (λ T′ t′. Fired t t′ c T T′) (acceptAt (p .way) r T) (aim t c r l)
+  same-way r l p =
+      rw (← p .ends)
+      (sound-alike r (p .way) (acceptAt (p .way) r T) _ refl
+      (same-along r (p .way) rootLink T (p .tree) hangs-root refl (p .there)))
+
+  -- a free holder: nothing is fired
+  pub free-holder : (r : Rule) (l : Link) → 1 ≤ l .holder → l .holder ≤ c → times (l .holder) T ≡ 0 → aim t c r l ≡ Refuse GuardFails
+  unfolding aim
+  free-holder r l i j z =
+      let b = w .sound .rest (l .holder) i j z in
+      let state = blank-state (slotAt t (l .holder)) b in
+      rw (ne-eqb (l .holder) 0 (λ q. omega arith), state) refl
