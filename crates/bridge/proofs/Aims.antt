@@ -178,7 +178,7 @@ module _ (t : List ℕ) (c : ℕ) (l : Link) where
       unfolding rewriteTop actionAt
       twice-full dw w e f h =
           let top : rewriteTop (within mostHeight) (ruleOn Double s) (mk s dv v (mk s du u m (mk s dw w e f)) far)
-              ≡ when (within mostHeight Double v u w) (doubled s dv du v u dw w m e f far) = simp top-is in
+          ≡ when (within mostHeight Double v u w) (doubled s dv du v u dw w m e f far) = simp top-is in
           let a = look-w l s dv du dw v u w m e f far h in
           let ne = not-holder l s dv du v u m (mk s dw w e f) far h z (w-in l s dv du dw v u w m e f far h .once) in
           alike-by t _ top
@@ -212,7 +212,7 @@ module _ (t : List ℕ) (c : ℕ) (l : Link) where
       let top : rewriteTop (within mostHeight) (ruleOn k s) (mk s dv v leaf far) ≡ none = simp top-is in
       let a = look t c x dv v leaf far s (h .spells) in
       let once : 1 ≤ times x (mk s dv v leaf far)
-          = omega (arith, times-mk s dv v leaf far x, ap (λ (d : Batch). same x (d .slot)) (a .holds), same-one x x refl) in
+      = omega (arith, times-mk s dv v leaf far x, ap (λ (d : Batch). same x (d .slot)) (a .holds), same-one x x refl) in
       alike-by t _ top
       (got-v k s a (λ q. omega (arith, ap (λ (j : ℕ). times j (mk s dv v leaf far)) q, h .apart)) ∙ no-u k s (slotAt t x) (a .nearSon))
       guard-fails

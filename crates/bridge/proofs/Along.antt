@@ -141,7 +141,7 @@ same-along {t} {c} r (s ∷ way) l T S h g e =
     (λ X. Hangs t c l X → Alike t (λ T′ t′. Below t t′ c l X T′) (acceptAt (s ∷ way) r X) (aim t c r (linkAlong t (s ∷ way) l)))
     (λ d p near far q k.
     let held : Held t c (record { holder = word t (linkAt l); side = s })
-        = by-bool (eqb (word t (linkAt l)) 0) (λ z. simp z) (λ z. simp z (holder-fit l s d p near far k)) in
+    = by-bool (eqb (word t (linkAt l)) 0) (λ z. simp z) (λ z. simp z (holder-fit l s d p near far k)) in
     simp top-is
     (hung-alike t _ _ s d p far (acceptAt way r near) _ (λ near′ t′ b. above l s d p near far k b)
     (same-along r way (record { holder = word t (linkAt l); side = s }) near S (hangs-down l s d p near far k) held q)))

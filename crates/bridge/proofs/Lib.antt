@@ -8,3 +8,4 @@ pub mod Aims
 pub mod Along
 pub mod Ways
 pub mod Fires
+pub mod Calls

@@ -14,7 +14,10 @@ use Rattle.scope.specs.declared.side.Side.the-variants.{Left, Right}
 use Rattle.scope.specs.declared.side.Link.{Link}
 use Rattle.tree.specs.Place.{subtree}
 use Rattle.bridge.specs.Leads.{linkAlong, Leads}
-use Rattle.bridge.proofs.Outside.{link-son}
+use Rattle.tree.proofs.Steps.{on-top}
+use Rattle.tree.proofs.Sides.{times-mk}
+use Rattle.bridge.proofs.Looks.{look}
+use Rattle.bridge.proofs.Outside.{same-one, link-son}
 
 -- the son on a side
 abbrev sonOf : Side → Tree → Tree → Tree
@@ -26,7 +29,7 @@ unfolding subtree
 son-there Left d a b l r = refl
 son-there Right d a b l r = refl
 
-same-none : (j k : ℕ) → (j ≡ k → ⊥) → same j k ≡ 0
+pub same-none : (j k : ℕ) → (j ≡ k → ⊥) → same j k ≡ 0
 same-none j k ne = simp (ne-eqb j k ne)
 
 -- one step further down
@@ -55,3 +58,25 @@ leads t c k s l (node d a b left right) p h =
                 (leads t c k s (on Right) right (rw (link-son t (on Right) (p .there)) (p .right)) (omega arith))
           ]
     ]
+
+-- and the holder of a link at the end of a way is a slot of the tree, or holds the link where the way begins
+pub leads-holder : (t : List ℕ) (c : ℕ) (way : List Side) (l : Link) (T S : Tree) → Spells t c (word t (linkAt l)) T
+    → subtree way T ≡ some S
+    → 1 ≤ same (linkAlong t way l .holder) (l .holder) + times (linkAlong t way l .holder) T
+unfolding subtree linkAlong
+leads-holder t c [] l T S p e = omega (arith, same-one (l .holder) (l .holder) refl)
+leads-holder t c (s ∷ way) l T S p e =
+    on-top s T S _ e
+    (λ X. Spells t c (word t (linkAt l)) X
+    → 1 ≤ same (linkAlong t (s ∷ way) l .holder) (l .holder) + times (linkAlong t (s ∷ way) l .holder) X)
+    (λ d x near far q h.
+    let a = look t c (word t (linkAt l)) d x near far s h in
+    let down : Link = record { holder = word t (linkAt l); side = s } in
+    let k = linkAlong t way down .holder in
+    omega (
+      arith,
+      leads-holder t c way down near S (rw (link-son t down (a .there)) (a .nearSon)) q,
+      times-mk s d x near far k,
+      ap (λ (b : Batch). same k (b .slot)) (a .holds),
+    ))
+    p

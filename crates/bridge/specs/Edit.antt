@@ -7,8 +7,6 @@ use Rattle.scope.specs.Numbers.{other}
 use Rattle.scope.specs.Table.{rootWord, base, linkPlace, registerPlace, son, Write, put}
 use Rattle.scope.specs.Rules.{seen, localHeight, turnedV, doubledU, doubledV}
 use Rattle.scope.specs.declared.rule.Pair.{Pair}
-use Rattle.scope.specs.declared.rule.Kind.{Kind}
-use Rattle.scope.specs.declared.rule.Kind.the-variants.{Propagate, Lean, Even, Double}
 use Rattle.scope.specs.declared.side.Side.{Side}
 use Rattle.scope.specs.declared.side.Side.the-variants.{Left, Right}
 use Rattle.scope.specs.declared.side.Link.{Link}
@@ -112,9 +110,3 @@ module _ (s : Side) (n : Nodes) where
       ∷ edit (n .w) (registerOn s) (localHeight (doubledU u w))
       ∷ edit (n .w) (registerOn (other s)) (localHeight (doubledV v w))
       ∷ []
-
-abbrev pub edits : Kind → Side → Nodes → List Edit
-edits Propagate s n = propagates s n
-edits Lean s n = rotates s n
-edits Even s n = rotates s n
-edits Double s n = rotatesTwice s n
