@@ -9,3 +9,4 @@ pub mod Along
 pub mod Ways
 pub mod Fires
 pub mod Calls
+pub mod Seeks

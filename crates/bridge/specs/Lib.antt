@@ -4,3 +4,4 @@ pub mod Below
 pub mod Alike
 pub mod Leads
 pub mod Fired
+pub mod Seek
