@@ -1,0 +1,3 @@
+-- The demands, each with its proof.
+pub mod Open
+pub mod Falls

@@ -1,0 +1,2 @@
+-- What the theorems of the demands speak of.
+pub mod Fires
