@@ -109,7 +109,7 @@ module _ {t : List ℕ} {c : ℕ} (l : Link) (s : Side) (d : Batch) (p : Pair) (
 abbrev pub Held : List ℕ → ℕ → Link → Type 0
 Held t c l = (eqb (l .holder) 0 || fitSlot c (slotAt t (l .holder))) ≡ true
 
-some-state : (x : ℕ) → stateOk x ≡ true → eqb x 0 ≡ false
+pub some-state : (x : ℕ) → stateOk x ≡ true → eqb x 0 ≡ false
 unfolding stateOk
 some-state x e = by-bool (eqb x 0) (λ p. neither e (rw (eqb-true x 0 p) refl)) (λ p. p)
 
@@ -145,4 +145,14 @@ same-along {t} {c} r (s ∷ way) l T S h g e =
     simp top-is
     (hung-alike t _ _ s d p far (acceptAt way r near) _ (λ near′ t′ b. above l s d p near far k b)
     (same-along r way (record { holder = word t (linkAt l); side = s }) near S (hangs-down l s d p near far k) held q)))
+    h
+
+-- what hangs at the end of a way
+pub hangs-along : {t : List ℕ} {c : ℕ} (way : List Side) (l : Link) (T S : Tree) → Hangs t c l T → subtree way T ≡ some S
+    → Hangs t c (linkAlong t way l) S
+unfolding subtree linkAlong
+hangs-along [] l T S h e = let q : T ≡ S = cc in rw (← q) h
+hangs-along {t} {c} (s ∷ way) l T S h e =
+    on-top s T S _ e (λ X. Hangs t c l X → Hangs t c (linkAlong t (s ∷ way) l) S)
+    (λ d p near far q k. hangs-along way (record { holder = word t (linkAt l); side = s }) near S (hangs-down l s d p near far k) q)
     h

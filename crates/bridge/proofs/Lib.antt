@@ -10,3 +10,4 @@ pub mod Ways
 pub mod Fires
 pub mod Calls
 pub mod Seeks
+pub mod Quiets

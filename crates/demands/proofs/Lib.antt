@@ -1,3 +1,4 @@
 -- The demands, each with its proof.
 pub mod Open
 pub mod Falls
+pub mod Walks

@@ -1,2 +1,3 @@
 -- What the theorems of the demands speak of.
 pub mod Fires
+pub mod Short
