@@ -2,3 +2,4 @@
 pub mod Open
 pub mod Falls
 pub mod Walks
+pub mod Refusals
