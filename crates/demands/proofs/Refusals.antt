@@ -1,6 +1,6 @@
 -- Demand 1: any call, on any words and arguments, is accepted, or refused with a listed code and nothing written. Assumes nothing.
 use Prim.Native.Nat.{ℕ, zero, suc, _+_, _-_}
-use mathlib.Core.Path.{_≡_, refl}
+use mathlib.Core.Path.{_≡_, refl, sym, ap}
 use mathlib.Core.Bool.{Bool, true, false, cond, not, _&&_}
 use mathlib.Core.List.{List, [], _∷_}
 use lib.ListN.{length}
@@ -9,16 +9,17 @@ use Rattle.scope.proofs.Bools.{neither}
 use Rattle.scope.specs.Numbers.{other, mostHeight, lastChange, ruleOf, linkOf}
 use Rattle.scope.specs.Table.{word, countWord, changeWord, slotsIn, slotAt, linkAt, son}
 use Rattle.scope.specs.Fit.{blankSlot, fitSlot, headerOk}
-use Rattle.scope.specs.Answers.{Done, codeOf, refusal, refused, gate, answering, admit, onSlots}
+use Rattle.scope.specs.Answers.{Done, codeOf, accepted, refusal, refused, gate, answering, admit, onSlots}
 use Rattle.scope.specs.Walk.{walkOf}
 use Rattle.scope.specs.Find.{started, startOf, foundIn, findAnswer}
 use Rattle.scope.specs.Post.{recordOk, freeSlot, posting, hangAt, postingAt, postPlan, posted, postOf, leafSlot}
 use Rattle.scope.specs.Amend.{amending, amendingAt, amendPlan, amended, amendOf}
 use Rattle.scope.specs.Drop.{dropping, leftmostFrom, ifMay, replacing, dropAt, droppingAt, dropPlan, dropped, dropOf}
 use Rattle.scope.specs.Sound.{soundTable, treeIn}
-use Rattle.scope.specs.Sums.{soundGate, checkAnswer, rankOf, ranked, rankAnswer, totalAnswer}
-use Rattle.scope.specs.Worth.{worthAnswer}
-use Rattle.scope.specs.Fire.{takeOf, onTaken, judged, aimW, aimU, aimV, aim, aimed, onRule, onLink, firingIn, firePlan, fired, fireOf}
+use Rattle.scope.specs.Sums.{soundGate, checkAnswer, rankOf, ranked, rankAnswer, totalOf, totalAnswer}
+use Rattle.scope.specs.Worth.{worthOf, worthAnswer}
+use Rattle.scope.specs.Rules.{guardAt, highestAt}
+use Rattle.scope.specs.Fire.{hasThird, takeOf, onTaken, judged, aimW, aimU, aimV, aim, aimed, onRule, onLink, firingIn, firePlan, fired, fireOf}
 use Rattle.scope.specs.Tidy.{tidying, tidyFrom, tidied, tidyOf}
 use Rattle.scope.specs.Calls.{Call, start, check, find, post, amend, drop, rank, total, worth, fire, tidy, answerOf, tableOf}
 use Rattle.scope.specs.declared.answer.Answer.{Answer}
@@ -216,3 +217,106 @@ module _ (t : List ℕ) where
         by-gate t (codes (drop key)) (not (eqb key 0)) (λ c. headerOk c t)
         (λ g. dropped t (dropping g (λ c. droppingAt t c (walkOf t c key))))
         (λ why. refl) refl (λ e. refl) (λ c e. refl) (λ c. drops _ (dropping-may c (walkOf t c key)))
+
+-- fire: its slots, its guard and its limit
+data Takes : Taken → Type 0 where
+  got : {s : Slot} → Takes (Got s)
+  missing : Takes (Not GuardFails)
+  unfit : Takes (Not Damaged)
+
+data Fires (listed : List ℕ) : Firing → Type 0 where
+  not-fire : (why : Refusal) → among (codeOf why) listed ≡ true → Fires listed (firing.Refuse why)
+  fires : {r : Rule} {n : Nodes} → Fires listed (firing.Fire r n)
+
+module _ (t : List ℕ) (rule holder side : ℕ) where
+  abbrev listed : List ℕ
+  listed = codes (fire rule holder side)
+
+  takes : (c k a b e : ℕ) → Takes (takeOf t c k a b e)
+  unfolding takeOf
+  takes c k a b e =
+      either Takes (eqb k 0) missing
+      (either Takes (fitSlot c (slotAt t k) && not (eqb k a) && not (eqb k b) && not (eqb k e)) got unfit)
+
+  taken : (x : Taken) (f : Slot → Firing) → Takes x → ((s : Slot) → Fires listed (f s)) → Fires listed (onTaken x f)
+  taken x f (got {s = s}) h = h s
+  taken x f missing h = not-fire GuardFails refl
+  taken x f unfit h = not-fire Damaged refl
+
+  judges : (r : Rule) (n : Nodes) → Fires listed (judged r n)
+  unfolding judged
+  judges r n =
+      either (Fires listed) (guardAt r n) (either (Fires listed) (leb (highestAt r n) mostHeight) fires (not-fire TooHigh refl)) (not-fire GuardFails refl)
+
+  module _ (c : ℕ) (r : Rule) (link : Link) where
+    w-may : (v : ℕ) (sv : Slot) (u : ℕ) (su : Slot) → Fires listed (aimW t c r link v sv u su)
+    unfolding aimW
+    w-may v sv u su = taken (takeOf t c (son su (other (r .side))) (link .holder) v u) _ (takes c _ _ _ _) (λ sw. judges r _)
+
+    u-may : (v : ℕ) (sv : Slot) → Fires listed (aimU t c r link v sv)
+    unfolding aimU
+    u-may v sv =
+        taken (takeOf t c (son sv (r .side)) (link .holder) v 0) _ (takes c _ _ _ _)
+        (λ su. either (Fires listed) (hasThird (r .kind)) (w-may v sv (son sv (r .side)) su) (judges r _))
+
+    v-may : Fires listed (aimV t c r link)
+    unfolding aimV
+    v-may = taken (takeOf t c (word t (linkAt link)) (link .holder) 0 0) _ (takes c _ _ _ _) (λ sv. u-may (word t (linkAt link)) sv)
+
+    aimed-may : Fires listed (aimed t c r link)
+    unfolding aimed aim
+    aimed-may =
+        either (Fires listed) (headerOk c t)
+        (either (Fires listed) (eqb (link .holder) 0) v-may
+        (either (Fires listed) (eqb (slotAt t (link .holder) .state) 0) (not-fire GuardFails refl)
+        (either (Fires listed) (fitSlot c (slotAt t (link .holder))) v-may (not-fire Damaged refl))))
+        (not-fire Damaged refl)
+
+  named : (c : ℕ) (a : RuleIs) (b : LinkIs) → Fires listed (onRule a (λ r. onLink b (λ l. aimed t c r l)))
+  named c rule-is.Unknown b = not-fire OutOfRange refl
+  named c (rule-is.Known r) link-is.Unknown = not-fire OutOfRange refl
+  named c (rule-is.Known r) (link-is.Known l) = aimed-may c r l
+
+  planned : (s : SlotsIs) → Fires listed (firingIn s (λ c. onRule (ruleOf rule) (λ r. onLink (linkOf c holder side) (λ l. aimed t c r l))))
+  planned Outside = not-fire WrongLength refl
+  planned (Within s) = named (s .count) (ruleOf rule) (linkOf (s .count) holder side)
+
+  ends : (f : Firing) → Fires listed f → Answered listed t (fired t f)
+  unfolding fired
+  ends f (not-fire why e) = refuses why e
+  ends f fires = accepts refl
+
+  fire-answered : Answered listed t (fireOf t rule holder side)
+  unfolding fireOf firePlan
+  fire-answered = ends _ (planned (slotsIn (length t)))
+
+-- DEMAND 1: every call, for any words and arguments
+pub answered : (x : Call) (t : List ℕ) → Answered (codes x) t (record { answer = answerOf x t; words = tableOf x t })
+unfolding answerOf tableOf checkAnswer totalAnswer worthAnswer
+answered start t = start-answered t
+answered check t = whole-answered t (λ c. accepted (word t changeWord) 0 0 0) (λ c. refl)
+answered (find key) t = find-answered t key
+answered (post key pieces state) t = post-answered t key pieces state
+answered (amend key pieces state) t = amend-answered t key pieces state
+answered (drop key) t = drop-answered t key
+answered (rank r) t = rank-answered t r
+answered (total K) t = whole-answered t (λ c. accepted (word t changeWord) (totalOf K (treeIn t c)) 0 0) (λ c. refl)
+answered worth t = whole-answered t (λ c. accepted (word t changeWord) (worthOf (treeIn t c)) 0 0) (λ c. refl)
+answered (fire rule holder side) t = fire-answered t rule holder side
+answered (tidy budget) t = tidy-answered t budget
+
+-- so a code that is not 0 comes with four zeros, is listed, and leaves every word
+pub record Refused (x : Call) (t : List ℕ) : Type 0 where
+  pub why : Refusal
+  pub answer : answerOf x t ≡ refusal why
+  pub words : tableOf x t ≡ t
+  pub listed : among (codeOf why) (codes x) ≡ true
+
+says : (x : Call) (t : List ℕ) (d : Done) → d ≡ record { answer = answerOf x t; words = tableOf x t } → Answered (codes x) t d
+    → (d .answer .code ≡ 0 → ⊥) → Refused x t
+says x t d e (accepts z) ne = absurd (ne z)
+says x t d e (refuses why l) ne =
+    record { why = why; answer = ap (λ (y : Done). y .answer) (sym e); words = ap (λ (y : Done). y .words) (sym e); listed = l }
+
+pub refused-is : (x : Call) (t : List ℕ) → (answerOf x t .code ≡ 0 → ⊥) → Refused x t
+refused-is x t = says x t (record { answer = answerOf x t; words = tableOf x t }) refl (answered x t)
