@@ -51,7 +51,7 @@ module _ (t t' : List ℕ) (c : ℕ) where
   frame-words x T h p = frame x T (λ k q. slot-words t t' k (λ f g. h k f q g)) p
 
 -- no tree has slot 0
-none-at-0 : (t : List ℕ) (c x : ℕ) (T : Tree) → Spells t c x T → times 0 T ≡ 0
+pub none-at-0 : (t : List ℕ) (c x : ℕ) (T : Tree) → Spells t c x T → times 0 T ≡ 0
 unfolding Spells times
 none-at-0 t c x leaf p = refl
 none-at-0 t c x (node d a b l r) p =

@@ -1,0 +1,7 @@
+-- What the laws of words and trees speak of.
+pub mod Edit
+pub mod Below
+pub mod Alike
+pub mod Leads
+pub mod Fired
+pub mod Seek

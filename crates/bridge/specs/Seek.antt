@@ -1,0 +1,31 @@
+-- The search walk on a tree: what it finds, the way that it takes, and how many nodes it visits. Assumes nothing: these are definitions.
+use Prim.Native.Nat.{ℕ, suc}
+use mathlib.Core.Bool.{Bool, cond}
+use mathlib.Core.Option.{Option, none, some}
+use mathlib.Core.List.{List, [], _∷_}
+use lib.Dec.{eqb, ltb}
+use Rattle.scope.specs.Tree.{Batch, Tree, leaf, node}
+use Rattle.scope.specs.declared.side.Side.{Side}
+use Rattle.scope.specs.declared.side.Side.the-variants.{Left, Right}
+use Rattle.scope.specs.declared.side.Link.{Link}
+use Rattle.scope.specs.declared.outcome.Walk.{Walk}
+use Rattle.scope.specs.declared.outcome.Walk.the-variants.{Hit, Miss}
+
+unfoldable pub seek : ℕ → Tree → Option Batch
+seek key leaf = none
+seek key (node d a b l r) = cond (eqb key (d .key)) (some d) (cond (ltb key (d .key)) (seek key l) (seek key r))
+
+unfoldable pub route : ℕ → Tree → List Side
+route key leaf = []
+route key (node d a b l r) =
+    cond (eqb key (d .key)) [] (cond (ltb key (d .key)) (Left ∷ route key l) (Right ∷ route key r))
+
+unfoldable pub visits : ℕ → Tree → ℕ
+visits key leaf = 0
+visits key (node d a b l r) =
+    suc (cond (eqb key (d .key)) 0 (cond (ltb key (d .key)) (visits key l) (visits key r)))
+
+-- how a walk ends that finds this, at that link, with so many visits
+abbrev pub sought : Option Batch → Link → ℕ → Walk
+sought none link seen = Miss link seen
+sought (some d) link seen = Hit (d .slot) link seen

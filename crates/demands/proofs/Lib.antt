@@ -1,0 +1,5 @@
+-- The demands, each with its proof.
+pub mod Open
+pub mod Falls
+pub mod Walks
+pub mod Refusals

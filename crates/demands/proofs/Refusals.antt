@@ -1,0 +1,322 @@
+-- Demand 1: any call, on any words and arguments, is accepted, or refused with a listed code and nothing written. Assumes nothing.
+use Prim.Native.Nat.{ℕ, zero, suc, _+_, _-_}
+use mathlib.Core.Path.{_≡_, refl, sym, ap}
+use mathlib.Core.Bool.{Bool, true, false, cond, not, _&&_}
+use mathlib.Core.List.{List, [], _∷_}
+use lib.ListN.{length}
+use lib.Dec.{eqb, ltb, leb}
+use Rattle.scope.proofs.Bools.{neither}
+use Rattle.scope.specs.Numbers.{other, mostHeight, lastChange, ruleOf, linkOf}
+use Rattle.scope.specs.Table.{word, countWord, changeWord, slotsIn, slotAt, linkAt, son}
+use Rattle.scope.specs.Fit.{blankSlot, fitSlot, headerOk}
+use Rattle.scope.specs.Answers.{Done, codeOf, accepted, refusal, refused, gate, answering, admit, onSlots}
+use Rattle.scope.specs.Walk.{walkOf}
+use Rattle.scope.specs.Find.{started, startOf, foundIn, findAnswer}
+use Rattle.scope.specs.Post.{recordOk, freeSlot, posting, hangAt, postingAt, postPlan, posted, postOf, leafSlot}
+use Rattle.scope.specs.Amend.{amending, amendingAt, amendPlan, amended, amendOf}
+use Rattle.scope.specs.Drop.{dropping, leftmostFrom, ifMay, replacing, dropAt, droppingAt, dropPlan, dropped, dropOf}
+use Rattle.scope.specs.Sound.{soundTable, treeIn}
+use Rattle.scope.specs.Sums.{soundGate, checkAnswer, rankOf, ranked, rankAnswer, totalOf, totalAnswer}
+use Rattle.scope.specs.Worth.{worthOf, worthAnswer}
+use Rattle.scope.specs.Rules.{guardAt, highestAt}
+use Rattle.scope.specs.Fire.{hasThird, takeOf, onTaken, judged, aimW, aimU, aimV, aim, aimed, onRule, onLink, firingIn, firePlan, fired, fireOf}
+use Rattle.scope.specs.Tidy.{tidying, tidyFrom, tidied, tidyOf}
+use Rattle.scope.specs.Calls.{Call, start, check, find, post, amend, drop, rank, total, worth, fire, tidy, answerOf, tableOf}
+use Rattle.scope.specs.declared.answer.Answer.{Answer}
+use Rattle.scope.specs.declared.answer.Refusal.{Refusal}
+use Rattle.scope.specs.declared.answer.Refusal.the-variants.{WrongLength, OutOfRange, Damaged, KeyPresent, KeyAbsent, NoFreeSlot, LastChange, GuardFails, TooHigh}
+use Rattle.scope.specs.declared.answer.Gate.{Gate}
+use Rattle.scope.specs.declared.answer.Gate.the-variants.{Shut, Open}
+use Rattle.scope.specs.declared.slot.Slot.{Slot}
+use Rattle.scope.specs.declared.slots.SlotsIs.{SlotsIs}
+use Rattle.scope.specs.declared.slots.SlotsIs.the-variants.{Within, Outside}
+use Rattle.scope.specs.declared.rule.Rule.{Rule}
+use Rattle.scope.specs.declared.rule.RuleIs.{RuleIs}
+use Rattle.scope.specs.declared.rule.RuleIs.the-variants as rule-is
+use Rattle.scope.specs.declared.side.Side.the-variants.{Right}
+use Rattle.scope.specs.declared.side.Link.{Link}
+use Rattle.scope.specs.declared.side.LinkIs.{LinkIs}
+use Rattle.scope.specs.declared.side.LinkIs.the-variants as link-is
+use Rattle.scope.specs.declared.outcome.Walk.{Walk}
+use Rattle.scope.specs.declared.outcome.Walk.the-variants.{Hit, Miss, Damage}
+use Rattle.scope.specs.declared.outcome.Leftmost.{Leftmost}
+use Rattle.scope.specs.declared.outcome.Leftmost.the-variants as leftmost
+use Rattle.scope.specs.declared.outcome.Posting.{Posting}
+use Rattle.scope.specs.declared.outcome.Posting.the-variants as posting-is
+use Rattle.scope.specs.declared.outcome.Amending.{Amending}
+use Rattle.scope.specs.declared.outcome.Amending.the-variants as amending-is
+use Rattle.scope.specs.declared.outcome.Dropping.{Dropping}
+use Rattle.scope.specs.declared.outcome.Dropping.the-variants as dropping-is
+use Rattle.scope.specs.declared.outcome.Rank.{Rank}
+use Rattle.scope.specs.declared.outcome.Rank.the-variants as ranks
+use Rattle.scope.specs.declared.outcome.Taken.{Taken}
+use Rattle.scope.specs.declared.outcome.Taken.the-variants.{Got, Not}
+use Rattle.scope.specs.declared.outcome.Nodes.{Nodes}
+use Rattle.scope.specs.declared.outcome.Firing.{Firing}
+use Rattle.scope.specs.declared.outcome.Firing.the-variants as firing
+use Rattle.demands.specs.Listed.{codes, among, Answered, accepts, refuses}
+
+-- what holds of both ends of a test holds of what it comes to
+either : {A : Type 0} (P : A → Type 0) (b : Bool) {x y : A} → P x → P y → P (cond b x y)
+either P true p q = p
+either P false p q = q
+
+-- what the plans of post, amend and drop may be
+data Posts (listed : List ℕ) : Posting → Type 0 where
+  refuse : (why : Refusal) → among (codeOf why) listed ≡ true → Posts listed (posting-is.Refuse why)
+  hang : {k : ℕ} {link : Link} → Posts listed (posting-is.Hang k link)
+
+data Amends (listed : List ℕ) : Amending → Type 0 where
+  not-amend : (why : Refusal) → among (codeOf why) listed ≡ true → Amends listed (amending-is.Refuse why)
+  change : {k : ℕ} → Amends listed (amending-is.Change k)
+
+data Drops (listed : List ℕ) : Dropping → Type 0 where
+  not-drop : (why : Refusal) → among (codeOf why) listed ≡ true → Drops listed (dropping-is.Refuse why)
+  lift : {slot son : ℕ} {link : Link} → Drops listed (dropping-is.Lift slot link son)
+  replace : {slot least : ℕ} {link : Link} → Drops listed (dropping-is.Replace slot least link)
+
+-- calls that only answer
+abbrev only : List ℕ → Answer → Done
+only t a = record { answer = a; words = t }
+
+module _ (t listed : List ℕ) (good : Bool) (whole : ℕ → Bool) (F : Gate → Done) where
+  -- a gate that is shut has the code 1, 2 or 3
+  by-gate : ((why : Refusal) → F (Shut why) ≡ refused t why) → among 1 listed ≡ true → (good ≡ false → among 2 listed ≡ true)
+      → ((c : ℕ) → whole c ≡ false → among 3 listed ≡ true) → ((c : ℕ) → Answered listed t (F (Open c)))
+      → Answered listed t (F (gate t good whole))
+  unfolding gate
+  by-gate shut one two three within = on (slotsIn (length t))
+    where
+      tests : (c : ℕ) (g h : Bool) → good ≡ g → whole c ≡ h → Answered listed t (F (admit g h c))
+      tests c true true p q = within c
+      tests c true false p q = rw (shut Damaged) (refuses Damaged (three c q))
+      tests c false h p q = rw (shut OutOfRange) (refuses OutOfRange (two p))
+
+      on : (s : SlotsIs) → Answered listed t (F (onSlots s (λ c. admit good (whole c) c)))
+      on Outside = rw (shut WrongLength) (refuses WrongLength one)
+      on (Within s) = tests (s .count) good (whole (s .count)) refl refl
+
+module _ (t : List ℕ) where
+  start-answered : Answered (codes start) t (startOf t)
+  unfolding startOf
+  start-answered =
+      by-gate t (codes start) true (λ c. true) (started t) (λ why. refl) refl (λ e. neither refl e) (λ c e. neither refl e) (λ c. accepts refl)
+
+  -- calls that want a sound table and have no argument to test
+  whole-answered : (f : ℕ → Answer) → ((c : ℕ) → f c .code ≡ 0) → Answered (1 ∷ 3 ∷ []) t (only t (answering (soundGate t true) f))
+  whole-answered f h =
+      by-gate t (1 ∷ 3 ∷ []) true (λ c. soundTable t c) (λ g. only t (answering g f)) (λ why. refl) refl (λ e. neither refl e) (λ c e. refl) (λ c. accepts (h c))
+
+  tidy-answered : (budget : ℕ) → Answered (codes (tidy budget)) t (tidyOf t budget)
+  unfolding tidyOf tidied
+  tidy-answered budget =
+      by-gate t (codes (tidy budget)) true (λ c. soundTable t c) (λ g. tidying t g (λ c. tidied t c (tidyFrom budget c t 0)))
+      (λ why. refl) refl (λ e. neither refl e) (λ c e. refl) (λ c. accepts refl)
+
+  -- rank and find
+  ranked-answered : (r : ℕ) (x : Rank) → Answered (codes (rank r)) t (only t (ranked t x))
+  unfolding ranked
+  ranked-answered r (ranks.At slot) = accepts refl
+  ranked-answered r (ranks.Past n) = refuses KeyAbsent refl
+
+  rank-answered : (r : ℕ) → Answered (codes (rank r)) t (only t (rankAnswer t r))
+  unfolding rankAnswer
+  rank-answered r =
+      by-gate t (codes (rank r)) (not (eqb r 0)) (λ c. soundTable t c) (λ g. only t (answering g (λ c. ranked t (rankOf r (treeIn t c)))))
+      (λ why. refl) refl (λ e. refl) (λ c e. refl) (λ c. ranked-answered r (rankOf r (treeIn t c)))
+
+  found-answered : (key : ℕ) (x : Walk) → Answered (codes (find key)) t (only t (foundIn t x))
+  unfolding foundIn
+  found-answered key (Hit slot link seen) = accepts refl
+  found-answered key (Miss link seen) = refuses KeyAbsent refl
+  found-answered key Damage = refuses Damaged refl
+
+  find-answered : (key : ℕ) → Answered (codes (find key)) t (only t (findAnswer t key))
+  unfolding findAnswer
+  find-answered key =
+      by-gate t (codes (find key)) (not (eqb key 0)) (λ c. headerOk c t) (λ g. only t (answering g (λ c. foundIn t (walkOf t c key))))
+      (λ why. refl) refl (λ e. refl) (λ c e. refl) (λ c. found-answered key (walkOf t c key))
+
+  -- post: what the walk and the free slot come to
+  module _ (key pieces state : ℕ) where
+    hang-may : (c : ℕ) (link : Link) (k : ℕ) → Posts (codes (post key pieces state)) (hangAt t c link k)
+    unfolding hangAt
+    hang-may c link k =
+        either (Posts _) (eqb k 0) (refuse NoFreeSlot refl)
+        (either (Posts _) (blankSlot (slotAt t k) && ltb (word t countWord) c)
+        (either (Posts _) (ltb (word t changeWord) lastChange) hang (refuse LastChange refl)) (refuse Damaged refl))
+
+    posting-may : (c : ℕ) (x : Walk) → Posts (codes (post key pieces state)) (postingAt t c x)
+    unfolding postingAt
+    posting-may c (Hit slot link seen) = refuse KeyPresent refl
+    posting-may c (Miss link seen) = hang-may c link (freeSlot t c)
+    posting-may c Damage = refuse Damaged refl
+
+    posts : (new : Slot) (x : Posting) → Posts (codes (post key pieces state)) x
+        → Answered (codes (post key pieces state)) t (posted t new x)
+    unfolding posted
+    posts new x (refuse why e) = refuses why e
+    posts new x hang = accepts refl
+
+    post-answered : Answered (codes (post key pieces state)) t (postOf t key pieces state)
+    unfolding postOf postPlan posted
+    post-answered =
+        by-gate t (codes (post key pieces state)) (recordOk key pieces state) (λ c. headerOk c t)
+        (λ g. posted t (leafSlot key pieces state) (posting g (λ c. postingAt t c (walkOf t c key))))
+        (λ why. refl) refl (λ e. refl) (λ c e. refl) (λ c. posts (leafSlot key pieces state) _ (posting-may c (walkOf t c key)))
+
+    amending-may : (x : Walk) → Amends (codes (amend key pieces state)) (amendingAt t x)
+    unfolding amendingAt
+    amending-may (Hit slot link seen) = either (Amends _) (ltb (word t changeWord) lastChange) change (not-amend LastChange refl)
+    amending-may (Miss link seen) = not-amend KeyAbsent refl
+    amending-may Damage = not-amend Damaged refl
+
+    amends : (x : Amending) → Amends (codes (amend key pieces state)) x
+        → Answered (codes (amend key pieces state)) t (amended t pieces state x)
+    unfolding amended
+    amends x (not-amend why e) = refuses why e
+    amends x change = accepts refl
+
+    amend-answered : Answered (codes (amend key pieces state)) t (amendOf t key pieces state)
+    unfolding amendOf amendPlan amended
+    amend-answered =
+        by-gate t (codes (amend key pieces state)) (recordOk key pieces state) (λ c. headerOk c t)
+        (λ g. amended t pieces state (amending g (λ c. amendingAt t (walkOf t c key))))
+        (λ why. refl) refl (λ e. refl) (λ c e. refl) (λ c. amends _ (amending-may (walkOf t c key)))
+
+  -- drop: as post, and the leftmost on the right
+  module _ (key : ℕ) where
+    if-may : (x : Dropping) → Drops (codes (drop key)) x → Drops (codes (drop key)) (ifMay t x)
+    unfolding ifMay
+    if-may x p =
+        either (Drops _) (eqb (word t countWord) 0) (not-drop Damaged refl)
+        (either (Drops _) (ltb (word t changeWord) lastChange) p (not-drop LastChange refl))
+
+    replacing-may : (slot : ℕ) (x : Leftmost) → Drops (codes (drop key)) (replacing t slot x)
+    replacing-may slot leftmost.Broken = not-drop Damaged refl
+    replacing-may slot (leftmost.Is least link) = if-may (dropping-is.Replace slot least link) replace
+
+    dropping-may : (c : ℕ) (x : Walk) → Drops (codes (drop key)) (droppingAt t c x)
+    unfolding droppingAt dropAt
+    dropping-may c (Hit slot link seen) =
+        either (Drops _) (eqb (slotAt t slot .left) 0) (if-may (dropping-is.Lift slot link (slotAt t slot .right)) lift)
+        (either (Drops _) (eqb (slotAt t slot .right) 0) (if-may (dropping-is.Lift slot link (slotAt t slot .left)) lift)
+        (replacing-may slot (leftmostFrom (c - seen) t c (slotAt t slot .right) (record { holder = slot; side = Right }))))
+    dropping-may c (Miss link seen) = not-drop KeyAbsent refl
+    dropping-may c Damage = not-drop Damaged refl
+
+    drops : (x : Dropping) → Drops (codes (drop key)) x → Answered (codes (drop key)) t (dropped t x)
+    unfolding dropped
+    drops x (not-drop why e) = refuses why e
+    drops x lift = accepts refl
+    drops x replace = accepts refl
+
+    drop-answered : Answered (codes (drop key)) t (dropOf t key)
+    unfolding dropOf dropPlan dropped
+    drop-answered =
+        by-gate t (codes (drop key)) (not (eqb key 0)) (λ c. headerOk c t)
+        (λ g. dropped t (dropping g (λ c. droppingAt t c (walkOf t c key))))
+        (λ why. refl) refl (λ e. refl) (λ c e. refl) (λ c. drops _ (dropping-may c (walkOf t c key)))
+
+-- fire: its slots, its guard and its limit
+data Takes : Taken → Type 0 where
+  got : {s : Slot} → Takes (Got s)
+  missing : Takes (Not GuardFails)
+  unfit : Takes (Not Damaged)
+
+data Fires (listed : List ℕ) : Firing → Type 0 where
+  not-fire : (why : Refusal) → among (codeOf why) listed ≡ true → Fires listed (firing.Refuse why)
+  fires : {r : Rule} {n : Nodes} → Fires listed (firing.Fire r n)
+
+module _ (t : List ℕ) (rule holder side : ℕ) where
+  abbrev listed : List ℕ
+  listed = codes (fire rule holder side)
+
+  takes : (c k a b e : ℕ) → Takes (takeOf t c k a b e)
+  unfolding takeOf
+  takes c k a b e =
+      either Takes (eqb k 0) missing
+      (either Takes (fitSlot c (slotAt t k) && not (eqb k a) && not (eqb k b) && not (eqb k e)) got unfit)
+
+  taken : (x : Taken) (f : Slot → Firing) → Takes x → ((s : Slot) → Fires listed (f s)) → Fires listed (onTaken x f)
+  taken x f (got {s = s}) h = h s
+  taken x f missing h = not-fire GuardFails refl
+  taken x f unfit h = not-fire Damaged refl
+
+  judges : (r : Rule) (n : Nodes) → Fires listed (judged r n)
+  unfolding judged
+  judges r n =
+      either (Fires listed) (guardAt r n) (either (Fires listed) (leb (highestAt r n) mostHeight) fires (not-fire TooHigh refl)) (not-fire GuardFails refl)
+
+  module _ (c : ℕ) (r : Rule) (link : Link) where
+    w-may : (v : ℕ) (sv : Slot) (u : ℕ) (su : Slot) → Fires listed (aimW t c r link v sv u su)
+    unfolding aimW
+    w-may v sv u su = taken (takeOf t c (son su (other (r .side))) (link .holder) v u) _ (takes c _ _ _ _) (λ sw. judges r _)
+
+    u-may : (v : ℕ) (sv : Slot) → Fires listed (aimU t c r link v sv)
+    unfolding aimU
+    u-may v sv =
+        taken (takeOf t c (son sv (r .side)) (link .holder) v 0) _ (takes c _ _ _ _)
+        (λ su. either (Fires listed) (hasThird (r .kind)) (w-may v sv (son sv (r .side)) su) (judges r _))
+
+    v-may : Fires listed (aimV t c r link)
+    unfolding aimV
+    v-may = taken (takeOf t c (word t (linkAt link)) (link .holder) 0 0) _ (takes c _ _ _ _) (λ sv. u-may (word t (linkAt link)) sv)
+
+    aimed-may : Fires listed (aimed t c r link)
+    unfolding aimed aim
+    aimed-may =
+        either (Fires listed) (headerOk c t)
+        (either (Fires listed) (eqb (link .holder) 0) v-may
+        (either (Fires listed) (eqb (slotAt t (link .holder) .state) 0) (not-fire GuardFails refl)
+        (either (Fires listed) (fitSlot c (slotAt t (link .holder))) v-may (not-fire Damaged refl))))
+        (not-fire Damaged refl)
+
+  named : (c : ℕ) (a : RuleIs) (b : LinkIs) → Fires listed (onRule a (λ r. onLink b (λ l. aimed t c r l)))
+  named c rule-is.Unknown b = not-fire OutOfRange refl
+  named c (rule-is.Known r) link-is.Unknown = not-fire OutOfRange refl
+  named c (rule-is.Known r) (link-is.Known l) = aimed-may c r l
+
+  planned : (s : SlotsIs) → Fires listed (firingIn s (λ c. onRule (ruleOf rule) (λ r. onLink (linkOf c holder side) (λ l. aimed t c r l))))
+  planned Outside = not-fire WrongLength refl
+  planned (Within s) = named (s .count) (ruleOf rule) (linkOf (s .count) holder side)
+
+  ends : (f : Firing) → Fires listed f → Answered listed t (fired t f)
+  unfolding fired
+  ends f (not-fire why e) = refuses why e
+  ends f fires = accepts refl
+
+  fire-answered : Answered listed t (fireOf t rule holder side)
+  unfolding fireOf firePlan
+  fire-answered = ends _ (planned (slotsIn (length t)))
+
+-- DEMAND 1: every call, for any words and arguments
+pub answered : (x : Call) (t : List ℕ) → Answered (codes x) t (record { answer = answerOf x t; words = tableOf x t })
+unfolding answerOf tableOf checkAnswer totalAnswer worthAnswer
+answered start t = start-answered t
+answered check t = whole-answered t (λ c. accepted (word t changeWord) 0 0 0) (λ c. refl)
+answered (find key) t = find-answered t key
+answered (post key pieces state) t = post-answered t key pieces state
+answered (amend key pieces state) t = amend-answered t key pieces state
+answered (drop key) t = drop-answered t key
+answered (rank r) t = rank-answered t r
+answered (total K) t = whole-answered t (λ c. accepted (word t changeWord) (totalOf K (treeIn t c)) 0 0) (λ c. refl)
+answered worth t = whole-answered t (λ c. accepted (word t changeWord) (worthOf (treeIn t c)) 0 0) (λ c. refl)
+answered (fire rule holder side) t = fire-answered t rule holder side
+answered (tidy budget) t = tidy-answered t budget
+
+-- so a code that is not 0 comes with four zeros, is listed, and leaves every word
+pub record Refused (x : Call) (t : List ℕ) : Type 0 where
+  pub why : Refusal
+  pub answer : answerOf x t ≡ refusal why
+  pub words : tableOf x t ≡ t
+  pub listed : among (codeOf why) (codes x) ≡ true
+
+says : (x : Call) (t : List ℕ) (d : Done) → d ≡ record { answer = answerOf x t; words = tableOf x t } → Answered (codes x) t d
+    → (d .answer .code ≡ 0 → ⊥) → Refused x t
+says x t d e (accepts z) ne = absurd (ne z)
+says x t d e (refuses why l) ne =
+    record { why = why; answer = ap (λ (y : Done). y .answer) (sym e); words = ap (λ (y : Done). y .words) (sym e); listed = l }
+
+pub refused-is : (x : Call) (t : List ℕ) → (answerOf x t .code ≡ 0 → ⊥) → Refused x t
+refused-is x t = says x t (record { answer = answerOf x t; words = tableOf x t }) refl (answered x t)

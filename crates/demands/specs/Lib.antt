@@ -1,0 +1,4 @@
+-- What the theorems of the demands speak of.
+pub mod Fires
+pub mod Short
+pub mod Listed

@@ -1,0 +1,2 @@
+-- Laws of lists of records.
+pub mod Lists

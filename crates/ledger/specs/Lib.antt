@@ -1,0 +1,3 @@
+-- What a ledger is and what the calls do to it.
+pub mod Entries
+pub mod Ledger
