@@ -21,7 +21,7 @@ use Rattle.scope.specs.Worth.{worthOf, worthAnswer}
 use Rattle.scope.specs.Rules.{guardAt, highestAt}
 use Rattle.scope.specs.Fire.{hasThird, takeOf, onTaken, judged, aimW, aimU, aimV, aim, aimed, onRule, onLink, firingIn, firePlan, fired, fireOf}
 use Rattle.scope.specs.Tidy.{tidying, tidyFrom, tidied, tidyOf}
-use Rattle.scope.specs.Calls.{Call, start, check, find, post, amend, drop, rank, total, worth, fire, tidy, answerOf, tableOf}
+use Rattle.scope.specs.Calls.{Call, Start, Check, Find, Post, Amend, Drop, Rank, Total, Worth, Fire, Tidy, answerOf, tableOf}
 use Rattle.scope.specs.declared.answer.Answer.{Answer}
 use Rattle.scope.specs.declared.answer.Refusal.{Refusal}
 use Rattle.scope.specs.declared.answer.Refusal.the-variants.{WrongLength, OutOfRange, Damaged, KeyPresent, KeyAbsent, NoFreeSlot, LastChange, GuardFails, TooHigh}
@@ -97,106 +97,106 @@ module _ (t listed : List ℕ) (good : Bool) (whole : ℕ → Bool) (F : Gate �
       on (Within s) = tests (s .count) good (whole (s .count)) refl refl
 
 module _ (t : List ℕ) where
-  start-answered : Answered (codes start) t (startOf t)
+  start-answered : Answered (codes Start) t (startOf t)
   unfolding startOf
   start-answered =
-      by-gate t (codes start) true (λ c. true) (started t) (λ why. refl) refl (λ e. neither refl e) (λ c e. neither refl e) (λ c. accepts refl)
+      by-gate t (codes Start) true (λ c. true) (started t) (λ why. refl) refl (λ e. neither refl e) (λ c e. neither refl e) (λ c. accepts refl)
 
   -- calls that want a sound table and have no argument to test
   whole-answered : (f : ℕ → Answer) → ((c : ℕ) → f c .code ≡ 0) → Answered (1 ∷ 3 ∷ []) t (only t (answering (soundGate t true) f))
   whole-answered f h =
       by-gate t (1 ∷ 3 ∷ []) true (λ c. soundTable t c) (λ g. only t (answering g f)) (λ why. refl) refl (λ e. neither refl e) (λ c e. refl) (λ c. accepts (h c))
 
-  tidy-answered : (budget : ℕ) → Answered (codes (tidy budget)) t (tidyOf t budget)
+  tidy-answered : (budget : ℕ) → Answered (codes (Tidy budget)) t (tidyOf t budget)
   unfolding tidyOf tidied
   tidy-answered budget =
-      by-gate t (codes (tidy budget)) true (λ c. soundTable t c) (λ g. tidying t g (λ c. tidied t c (tidyFrom budget c t 0)))
+      by-gate t (codes (Tidy budget)) true (λ c. soundTable t c) (λ g. tidying t g (λ c. tidied t c (tidyFrom budget c t 0)))
       (λ why. refl) refl (λ e. neither refl e) (λ c e. refl) (λ c. accepts refl)
 
   -- rank and find
-  ranked-answered : (r : ℕ) (x : Rank) → Answered (codes (rank r)) t (only t (ranked t x))
+  ranked-answered : (r : ℕ) (x : Rank) → Answered (codes (Rank r)) t (only t (ranked t x))
   unfolding ranked
   ranked-answered r (ranks.At slot) = accepts refl
   ranked-answered r (ranks.Past n) = refuses KeyAbsent refl
 
-  rank-answered : (r : ℕ) → Answered (codes (rank r)) t (only t (rankAnswer t r))
+  rank-answered : (r : ℕ) → Answered (codes (Rank r)) t (only t (rankAnswer t r))
   unfolding rankAnswer
   rank-answered r =
-      by-gate t (codes (rank r)) (not (eqb r 0)) (λ c. soundTable t c) (λ g. only t (answering g (λ c. ranked t (rankOf r (treeIn t c)))))
+      by-gate t (codes (Rank r)) (not (eqb r 0)) (λ c. soundTable t c) (λ g. only t (answering g (λ c. ranked t (rankOf r (treeIn t c)))))
       (λ why. refl) refl (λ e. refl) (λ c e. refl) (λ c. ranked-answered r (rankOf r (treeIn t c)))
 
-  found-answered : (key : ℕ) (x : Walk) → Answered (codes (find key)) t (only t (foundIn t x))
+  found-answered : (key : ℕ) (x : Walk) → Answered (codes (Find key)) t (only t (foundIn t x))
   unfolding foundIn
   found-answered key (Hit slot link seen) = accepts refl
   found-answered key (Miss link seen) = refuses KeyAbsent refl
   found-answered key Damage = refuses Damaged refl
 
-  find-answered : (key : ℕ) → Answered (codes (find key)) t (only t (findAnswer t key))
+  find-answered : (key : ℕ) → Answered (codes (Find key)) t (only t (findAnswer t key))
   unfolding findAnswer
   find-answered key =
-      by-gate t (codes (find key)) (not (eqb key 0)) (λ c. headerOk c t) (λ g. only t (answering g (λ c. foundIn t (walkOf t c key))))
+      by-gate t (codes (Find key)) (not (eqb key 0)) (λ c. headerOk c t) (λ g. only t (answering g (λ c. foundIn t (walkOf t c key))))
       (λ why. refl) refl (λ e. refl) (λ c e. refl) (λ c. found-answered key (walkOf t c key))
 
   -- post: what the walk and the free slot come to
   module _ (key pieces state : ℕ) where
-    hang-may : (c : ℕ) (link : Link) (k : ℕ) → Posts (codes (post key pieces state)) (hangAt t c link k)
+    hang-may : (c : ℕ) (link : Link) (k : ℕ) → Posts (codes (Post key pieces state)) (hangAt t c link k)
     unfolding hangAt
     hang-may c link k =
         either (Posts _) (eqb k 0) (refuse NoFreeSlot refl)
         (either (Posts _) (blankSlot (slotAt t k) && ltb (word t countWord) c)
         (either (Posts _) (ltb (word t changeWord) lastChange) hang (refuse LastChange refl)) (refuse Damaged refl))
 
-    posting-may : (c : ℕ) (x : Walk) → Posts (codes (post key pieces state)) (postingAt t c x)
+    posting-may : (c : ℕ) (x : Walk) → Posts (codes (Post key pieces state)) (postingAt t c x)
     unfolding postingAt
     posting-may c (Hit slot link seen) = refuse KeyPresent refl
     posting-may c (Miss link seen) = hang-may c link (freeSlot t c)
     posting-may c Damage = refuse Damaged refl
 
-    posts : (new : Slot) (x : Posting) → Posts (codes (post key pieces state)) x
-        → Answered (codes (post key pieces state)) t (posted t new x)
+    posts : (new : Slot) (x : Posting) → Posts (codes (Post key pieces state)) x
+        → Answered (codes (Post key pieces state)) t (posted t new x)
     unfolding posted
     posts new x (refuse why e) = refuses why e
     posts new x hang = accepts refl
 
-    post-answered : Answered (codes (post key pieces state)) t (postOf t key pieces state)
+    post-answered : Answered (codes (Post key pieces state)) t (postOf t key pieces state)
     unfolding postOf postPlan posted
     post-answered =
-        by-gate t (codes (post key pieces state)) (recordOk key pieces state) (λ c. headerOk c t)
+        by-gate t (codes (Post key pieces state)) (recordOk key pieces state) (λ c. headerOk c t)
         (λ g. posted t (leafSlot key pieces state) (posting g (λ c. postingAt t c (walkOf t c key))))
         (λ why. refl) refl (λ e. refl) (λ c e. refl) (λ c. posts (leafSlot key pieces state) _ (posting-may c (walkOf t c key)))
 
-    amending-may : (x : Walk) → Amends (codes (amend key pieces state)) (amendingAt t x)
+    amending-may : (x : Walk) → Amends (codes (Amend key pieces state)) (amendingAt t x)
     unfolding amendingAt
     amending-may (Hit slot link seen) = either (Amends _) (ltb (word t changeWord) lastChange) change (not-amend LastChange refl)
     amending-may (Miss link seen) = not-amend KeyAbsent refl
     amending-may Damage = not-amend Damaged refl
 
-    amends : (x : Amending) → Amends (codes (amend key pieces state)) x
-        → Answered (codes (amend key pieces state)) t (amended t pieces state x)
+    amends : (x : Amending) → Amends (codes (Amend key pieces state)) x
+        → Answered (codes (Amend key pieces state)) t (amended t pieces state x)
     unfolding amended
     amends x (not-amend why e) = refuses why e
     amends x change = accepts refl
 
-    amend-answered : Answered (codes (amend key pieces state)) t (amendOf t key pieces state)
+    amend-answered : Answered (codes (Amend key pieces state)) t (amendOf t key pieces state)
     unfolding amendOf amendPlan amended
     amend-answered =
-        by-gate t (codes (amend key pieces state)) (recordOk key pieces state) (λ c. headerOk c t)
+        by-gate t (codes (Amend key pieces state)) (recordOk key pieces state) (λ c. headerOk c t)
         (λ g. amended t pieces state (amending g (λ c. amendingAt t (walkOf t c key))))
         (λ why. refl) refl (λ e. refl) (λ c e. refl) (λ c. amends _ (amending-may (walkOf t c key)))
 
   -- drop: as post, and the leftmost on the right
   module _ (key : ℕ) where
-    if-may : (x : Dropping) → Drops (codes (drop key)) x → Drops (codes (drop key)) (ifMay t x)
+    if-may : (x : Dropping) → Drops (codes (Drop key)) x → Drops (codes (Drop key)) (ifMay t x)
     unfolding ifMay
     if-may x p =
         either (Drops _) (eqb (word t countWord) 0) (not-drop Damaged refl)
         (either (Drops _) (ltb (word t changeWord) lastChange) p (not-drop LastChange refl))
 
-    replacing-may : (slot : ℕ) (x : Leftmost) → Drops (codes (drop key)) (replacing t slot x)
+    replacing-may : (slot : ℕ) (x : Leftmost) → Drops (codes (Drop key)) (replacing t slot x)
     replacing-may slot leftmost.Broken = not-drop Damaged refl
     replacing-may slot (leftmost.Is least link) = if-may (dropping-is.Replace slot least link) replace
 
-    dropping-may : (c : ℕ) (x : Walk) → Drops (codes (drop key)) (droppingAt t c x)
+    dropping-may : (c : ℕ) (x : Walk) → Drops (codes (Drop key)) (droppingAt t c x)
     unfolding droppingAt dropAt
     dropping-may c (Hit slot link seen) =
         either (Drops _) (eqb (slotAt t slot .left) 0) (if-may (dropping-is.Lift slot link (slotAt t slot .right)) lift)
@@ -205,16 +205,16 @@ module _ (t : List ℕ) where
     dropping-may c (Miss link seen) = not-drop KeyAbsent refl
     dropping-may c Damage = not-drop Damaged refl
 
-    drops : (x : Dropping) → Drops (codes (drop key)) x → Answered (codes (drop key)) t (dropped t x)
+    drops : (x : Dropping) → Drops (codes (Drop key)) x → Answered (codes (Drop key)) t (dropped t x)
     unfolding dropped
     drops x (not-drop why e) = refuses why e
     drops x lift = accepts refl
     drops x replace = accepts refl
 
-    drop-answered : Answered (codes (drop key)) t (dropOf t key)
+    drop-answered : Answered (codes (Drop key)) t (dropOf t key)
     unfolding dropOf dropPlan dropped
     drop-answered =
-        by-gate t (codes (drop key)) (not (eqb key 0)) (λ c. headerOk c t)
+        by-gate t (codes (Drop key)) (not (eqb key 0)) (λ c. headerOk c t)
         (λ g. dropped t (dropping g (λ c. droppingAt t c (walkOf t c key))))
         (λ why. refl) refl (λ e. refl) (λ c e. refl) (λ c. drops _ (dropping-may c (walkOf t c key)))
 
@@ -230,7 +230,7 @@ data Fires (listed : List ℕ) : Firing → Type 0 where
 
 module _ (t : List ℕ) (rule holder side : ℕ) where
   abbrev listed : List ℕ
-  listed = codes (fire rule holder side)
+  listed = codes (Fire rule holder side)
 
   takes : (c k a b e : ℕ) → Takes (takeOf t c k a b e)
   unfolding takeOf
@@ -293,17 +293,17 @@ module _ (t : List ℕ) (rule holder side : ℕ) where
 -- DEMAND 1: every call, for any words and arguments
 pub answered : (x : Call) (t : List ℕ) → Answered (codes x) t (record { answer = answerOf x t; words = tableOf x t })
 unfolding answerOf tableOf checkAnswer totalAnswer worthAnswer
-answered start t = start-answered t
-answered check t = whole-answered t (λ c. accepted (word t changeWord) 0 0 0) (λ c. refl)
-answered (find key) t = find-answered t key
-answered (post key pieces state) t = post-answered t key pieces state
-answered (amend key pieces state) t = amend-answered t key pieces state
-answered (drop key) t = drop-answered t key
-answered (rank r) t = rank-answered t r
-answered (total K) t = whole-answered t (λ c. accepted (word t changeWord) (totalOf K (treeIn t c)) 0 0) (λ c. refl)
-answered worth t = whole-answered t (λ c. accepted (word t changeWord) (worthOf (treeIn t c)) 0 0) (λ c. refl)
-answered (fire rule holder side) t = fire-answered t rule holder side
-answered (tidy budget) t = tidy-answered t budget
+answered Start t = start-answered t
+answered Check t = whole-answered t (λ c. accepted (word t changeWord) 0 0 0) (λ c. refl)
+answered (Find key) t = find-answered t key
+answered (Post key pieces state) t = post-answered t key pieces state
+answered (Amend key pieces state) t = amend-answered t key pieces state
+answered (Drop key) t = drop-answered t key
+answered (Rank r) t = rank-answered t r
+answered (Total K) t = whole-answered t (λ c. accepted (word t changeWord) (totalOf K (treeIn t c)) 0 0) (λ c. refl)
+answered Worth t = whole-answered t (λ c. accepted (word t changeWord) (worthOf (treeIn t c)) 0 0) (λ c. refl)
+answered (Fire rule holder side) t = fire-answered t rule holder side
+answered (Tidy budget) t = tidy-answered t budget
 
 -- so a code that is not 0 comes with four zeros, is listed, and leaves every word
 pub record Refused (x : Call) (t : List ℕ) : Type 0 where

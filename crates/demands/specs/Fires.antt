@@ -3,7 +3,7 @@ use Prim.Native.Nat.{ℕ, _+_}
 use mathlib.Core.Bool.{cond}
 use mathlib.Core.List.{List, [], _∷_, map}
 use lib.Dec.{eqb}
-use Rattle.scope.specs.Calls.{Call, fire}
+use Rattle.scope.specs.Calls.{Call, Fire}
 use Rattle.scope.specs.declared.answer.Answer.{Answer}
 
 -- the numbers of one call of fire
@@ -13,7 +13,7 @@ pub record Trial : Type 0 where
   pub side : ℕ
 
 abbrev pub fires : List Trial → List Call
-fires = map (λ x. fire (x .rule) (x .holder) (x .side))
+fires = map (λ x. Fire (x .rule) (x .holder) (x .side))
 
 -- how many answers say that the call was accepted
 unfoldable pub acceptedIn : List Answer → ℕ

@@ -5,22 +5,22 @@ use mathlib.Core.Bool.{Bool, true, false, _||_}
 use mathlib.Core.List.{List, [], _∷_}
 use lib.Dec.{eqb}
 use Rattle.scope.specs.Answers.{Done, codeOf, refused}
-use Rattle.scope.specs.Calls.{Call, start, check, find, post, amend, drop, rank, total, worth, fire, tidy}
+use Rattle.scope.specs.Calls.{Call, Start, Check, Find, Post, Amend, Drop, Rank, Total, Worth, Fire, Tidy}
 use Rattle.scope.specs.declared.answer.Refusal.{Refusal}
 
 -- the codes of a call's refusals
 abbrev pub codes : Call → List ℕ
-codes start = 1 ∷ []
-codes check = 1 ∷ 3 ∷ []
-codes (find key) = 1 ∷ 2 ∷ 3 ∷ 5 ∷ []
-codes (post key pieces state) = 1 ∷ 2 ∷ 3 ∷ 4 ∷ 6 ∷ 7 ∷ []
-codes (amend key pieces state) = 1 ∷ 2 ∷ 3 ∷ 5 ∷ 7 ∷ []
-codes (drop key) = 1 ∷ 2 ∷ 3 ∷ 5 ∷ 7 ∷ []
-codes (rank r) = 1 ∷ 2 ∷ 3 ∷ 5 ∷ []
-codes (total K) = 1 ∷ 3 ∷ []
-codes worth = 1 ∷ 3 ∷ []
-codes (fire rule holder side) = 1 ∷ 2 ∷ 3 ∷ 8 ∷ 9 ∷ []
-codes (tidy budget) = 1 ∷ 3 ∷ []
+codes Start = 1 ∷ []
+codes Check = 1 ∷ 3 ∷ []
+codes (Find key) = 1 ∷ 2 ∷ 3 ∷ 5 ∷ []
+codes (Post key pieces state) = 1 ∷ 2 ∷ 3 ∷ 4 ∷ 6 ∷ 7 ∷ []
+codes (Amend key pieces state) = 1 ∷ 2 ∷ 3 ∷ 5 ∷ 7 ∷ []
+codes (Drop key) = 1 ∷ 2 ∷ 3 ∷ 5 ∷ 7 ∷ []
+codes (Rank r) = 1 ∷ 2 ∷ 3 ∷ 5 ∷ []
+codes (Total K) = 1 ∷ 3 ∷ []
+codes Worth = 1 ∷ 3 ∷ []
+codes (Fire rule holder side) = 1 ∷ 2 ∷ 3 ∷ 8 ∷ 9 ∷ []
+codes (Tidy budget) = 1 ∷ 3 ∷ []
 
 abbrev pub among : ℕ → List ℕ → Bool
 among n [] = false
