@@ -110,23 +110,33 @@ fn middling(dice: &mut Dice) -> Vec<u32> {
     any_sound(dice, 300)
 }
 
-/// After tidy has made all its firings, each register is the true height; then the table is changed and tidied again.
+/// Small tables with any registers, and some of the largest size that only a few changes keep from being quiet.
 fn quiet(run: &mut Run, calls: u64) -> Result<(), Differs> {
     while run.calls < calls {
         let most = run.dice.pick(&[3, 7, 15, 15, 24]);
-        let mut bench = Bench::new(&any_sound(&mut run.dice, most));
-        for _ in 0..6 {
-            let answer = run.call(&mut bench, Call::new("tidy", &[u32::MAX]))?;
-            if answer[3] != 1 {
-                return Err(run.fault(bench.words(), "tidy stopped below its budget with a guard that holds"));
-            }
-            if let Some(fault) = quiet_fault(bench.words()) {
-                return Err(run.fault(bench.words(), &fault));
-            }
-            for name in ["worth", "post", "drop", "post", "find", "drop"] {
-                let call = call_named(&mut run.dice, bench.words(), name);
-                run.call(&mut bench, call)?;
-            }
+        let words = match run.calls % 10_000 {
+            0..40 => sound(&mut run.dice, MOST_SLOTS, MOST_SLOTS - 3, Shape::Middle, Registers::True),
+            _ => any_sound(&mut run.dice, most),
+        };
+        quiet_again(run, &words)?;
+    }
+    Ok(())
+}
+
+/// After tidy has made all its firings, each register is the true height; then the table is changed and tidied again.
+fn quiet_again(run: &mut Run, words: &[u32]) -> Result<(), Differs> {
+    let mut bench = Bench::new(words);
+    for _ in 0..6 {
+        let answer = run.call(&mut bench, Call::new("tidy", &[u32::MAX]))?;
+        if answer[3] != 1 {
+            return Err(run.fault(bench.words(), "tidy stopped below its budget with a guard that holds"));
+        }
+        if let Some(fault) = quiet_fault(bench.words()) {
+            return Err(run.fault(bench.words(), &fault));
+        }
+        for name in ["worth", "post", "drop", "post", "find", "drop"] {
+            let call = call_named(&mut run.dice, bench.words(), name);
+            run.call(&mut bench, call)?;
         }
     }
     Ok(())
