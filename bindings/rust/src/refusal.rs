@@ -56,16 +56,16 @@ impl Refusal {
     /// What has happened, in a sentence for a person.
     pub fn sentence(self) -> &'static str {
         match self {
-            Refusal::BadLength => "The memory lent for the table has the wrong size: it must be 4 words and 8 for each of 1 to 4,095 slots.",
+            Refusal::BadLength => "The lent memory is no table: it takes 4 words and 8 for each of 1 to 4,095 slots.",
             Refusal::OutOfRange => "One of the numbers is out of range; nothing was changed.",
-            Refusal::Damaged => "The table is damaged: do not use it further, and restore it from the last good copy.",
+            Refusal::Damaged => "The table is damaged: stop using it and restore the last good copy.",
             Refusal::Present => "A record with this key is there already; amend it instead of posting it again.",
             Refusal::Absent => "There is no record with this key or at this rank.",
             Refusal::Full => "The table is full: drop a record or move to a table with more slots.",
             Refusal::Spent => "The table has counted all the changes it can; copy its records to a fresh table.",
             Refusal::NoRule => "The rule does not apply at this place as the table stands.",
-            Refusal::TooHigh => "The height to be written is above 65,535; bring the registers below it up to date first.",
-            Refusal::Unreadable => "The line could not be read; check its fields, their order and the single spaces between them.",
+            Refusal::TooHigh => "The height would be above 65,535; bring the registers below up to date first.",
+            Refusal::Unreadable => "The line could not be read; check its fields, their order and the single spaces.",
         }
     }
 }

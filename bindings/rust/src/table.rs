@@ -141,6 +141,8 @@ impl<'a> Table<'a> {
     /// The records in key order, if the table is sound.
     pub fn records(&self) -> Result<Vec<Record>, Refusal> {
         self.check()?;
-        (1..=self.words[1]).map(|r| self.rank(r).map(|slot| self.record(slot).expect("a ranked slot is used"))).collect()
+        (1..=self.words[1])
+            .map(|r| self.rank(r).map(|slot| self.record(slot).expect("a ranked slot is used")))
+            .collect()
     }
 }

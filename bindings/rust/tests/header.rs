@@ -26,17 +26,21 @@ fn without_comments(text: &str) -> String {
 
 /// `const uint32_t *t` as name `t` and type `const uint32_t *`; `uint64_t out[5]` as `out` and `uint64_t [5]`.
 fn c_parameter(text: &str) -> (String, String) {
-    let (text, array) = text.trim().split_once('[').map_or((text.trim(), String::new()), |(a, b)| (a, format!(" [{b}")));
+    let (text, array) =
+        text.trim().split_once('[').map_or((text.trim(), String::new()), |(a, b)| (a, format!(" [{b}")));
     let end = text.rfind(|c: char| !(c.is_alphanumeric() || c == '_')).expect("a type and a name") + 1;
     (text[end..].to_string(), text[..end].trim_end().to_string() + &array)
 }
 
 fn c_calls() -> Vec<Declared> {
     let header = without_comments(&file("../c/futtockram.h"));
-    between(&header, "\nvoid ", ";").iter().map(|text| {
-        let (name, rest) = text.split_once('(').expect("a parameter list");
-        (name.to_string(), rest.trim_end_matches(')').split(',').map(c_parameter).collect())
-    }).collect()
+    between(&header, "\nvoid ", ";")
+        .iter()
+        .map(|text| {
+            let (name, rest) = text.split_once('(').expect("a parameter list");
+            (name.to_string(), rest.trim_end_matches(')').split(',').map(c_parameter).collect())
+        })
+        .collect()
 }
 
 /// The C type of a Rust one.
@@ -48,28 +52,34 @@ fn c_type(rust: &str) -> String {
         "u32" => "uint32_t",
         "*mut [u64; 5]" | "*mut u64" => "uint64_t [5]",
         other => panic!("no C type is known for {other}"),
-    }.to_string()
+    }
+    .to_string()
 }
 
 fn rust_calls(path: &str) -> Vec<Declared> {
-    between(&file(path), "pub fn ftk_", ");").iter().map(|text| {
-        let (name, rest) = text.split_once('(').expect("a parameter list");
-        let parameter = |text: &str| {
-            let (name, rust) = text.split_once(": ").expect("a name and a type");
-            (name.trim().to_string(), c_type(rust.trim()))
-        };
-        (format!("ftk_{name}"), rest.split(", ").map(parameter).collect())
-    }).collect()
+    between(&file(path), "pub fn ftk_", ");")
+        .iter()
+        .map(|text| {
+            let (name, rest) = text.split_once('(').expect("a parameter list");
+            let parameter = |text: &str| {
+                let (name, rust) = text.split_once(": ").expect("a name and a type");
+                (name.trim().to_string(), c_type(rust.trim()))
+            };
+            (format!("ftk_{name}"), rest.split(", ").map(parameter).collect())
+        })
+        .collect()
 }
 
 /// The header's `#define NAME NUMBERu` lines.
 fn c_numbers() -> BTreeMap<String, u64> {
     let header = without_comments(&file("../c/futtockram.h"));
     let defines = header.lines().filter_map(|line| line.strip_prefix("#define FTK_"));
-    defines.filter_map(|line| {
-        let (name, number) = line.split_once(' ')?;
-        Some((name.to_string(), number.trim().strip_suffix('u')?.parse().ok()?))
-    }).collect()
+    defines
+        .filter_map(|line| {
+            let (name, number) = line.split_once(' ')?;
+            Some((name.to_string(), number.trim().strip_suffix('u')?.parse().ok()?))
+        })
+        .collect()
 }
 
 #[test]
@@ -89,7 +99,9 @@ fn the_refusals_are_those_of_the_header() {
     let numbers = c_numbers();
     // BadLength in Rust is BAD_LENGTH in the header.
     let spelled = |name: String| {
-        let parts = name.chars().flat_map(|c| [if c.is_uppercase() { "_" } else { "" }.to_string(), c.to_uppercase().collect()]);
+        let parts = name
+            .chars()
+            .flat_map(|c| [if c.is_uppercase() { "_" } else { "" }.to_string(), c.to_uppercase().collect()]);
         parts.collect::<String>().trim_start_matches('_').to_string()
     };
     for refusal in Refusal::ALL {

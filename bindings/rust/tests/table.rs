@@ -56,6 +56,18 @@ fn refusals_say_why() {
 }
 
 #[test]
+fn a_height_above_the_limit_is_refused() {
+    let mut words = [0; WORDS];
+    let table = three(&mut words);
+    assert_eq!(table.record(2).map(|record| record.sons), Some([0, 3]));
+    // The right register of slot 2, which a stale height has brought to the limit.
+    words[4 + 8 + 6] = futtockram::MOST_HEIGHT;
+    let mut table = Table::open(&mut words).unwrap();
+    assert_eq!(table.fire(Rule::RightRegister, 0, Side::Left), Err(Refusal::TooHigh));
+    assert_eq!(table.tidy(u32::MAX).map(|tidied| tidied.quiet), Ok(true));
+}
+
+#[test]
 fn each_refusal_has_a_sentence_of_its_own() {
     for (place, refusal) in Refusal::ALL.into_iter().enumerate() {
         assert!(refusal.sentence().ends_with('.') && refusal.to_string().contains(&format!("(code {})", place + 1)));

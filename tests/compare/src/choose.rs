@@ -8,8 +8,8 @@ use crate::paper::*;
 /// Which calls to choose, a name as often as it stands here.
 const MIX: [&str; 40] = [
     "check", "find", "find", "find", "find", "post", "post", "post", "post", "post", "post", "post", "amend", "amend",
-    "amend", "drop", "drop", "drop", "drop", "drop", "rank", "rank", "rank", "total", "total", "total", "worth", "worth",
-    "fire", "fire", "fire", "fire", "fire", "fire", "fire", "fire", "fire", "tidy", "tidy", "tidy",
+    "amend", "drop", "drop", "drop", "drop", "drop", "rank", "rank", "rank", "total", "total", "total", "worth",
+    "worth", "fire", "fire", "fire", "fire", "fire", "fire", "fire", "fire", "fire", "tidy", "tidy", "tidy",
 ];
 
 /// A call on the words as they stand.
@@ -73,7 +73,11 @@ fn key(dice: &mut Dice, words: &[u32]) -> u32 {
 fn gap(dice: &mut Dice, words: &[u32]) -> u32 {
     let near = slot_key(dice, words);
     let step = dice.pick(&[1, 2, 3, 50, 1 << 20]);
-    if dice.chance(1, 2) { near.wrapping_add(step) } else { near.wrapping_sub(step) }
+    if dice.chance(1, 2) {
+        near.wrapping_add(step)
+    } else {
+        near.wrapping_sub(step)
+    }
 }
 
 fn pieces(dice: &mut Dice) -> u32 {
@@ -98,7 +102,13 @@ fn state(dice: &mut Dice) -> u32 {
 
 /// A budget: without end only for tables where it ends soon.
 fn budget(dice: &mut Dice, slots: usize) -> u32 {
-    let most = if slots <= 64 { 40 } else if slots <= 300 { 12 } else { 3 };
+    let most = if slots <= 64 {
+        40
+    } else if slots <= 300 {
+        12
+    } else {
+        3
+    };
     match dice.below(8) {
         0 => 0,
         1 | 2 => 1,
@@ -121,12 +131,15 @@ fn firing(dice: &mut Dice, words: &[u32], slots: usize) -> Call {
     let over = usize::from(dice.chance(1, 8));
     let (rule, holder, side) = throw(dice, slots, 1 - over, 8 + over, over, 1 + over);
     let rare = dice.word();
-    Call::new("fire", &match dice.below(60) {
-        0 => [rare, holder, side],
-        1 => [rule, rare, side],
-        2 => [rule, holder, rare],
-        _ => [rule, holder, side],
-    })
+    Call::new(
+        "fire",
+        &match dice.below(60) {
+            0 => [rare, holder, side],
+            1 => [rule, rare, side],
+            2 => [rule, holder, rare],
+            _ => [rule, holder, side],
+        },
+    )
 }
 
 /// A rule, a holder (the root link one time in six) and a side.

@@ -20,7 +20,11 @@ pub fn carry(words: &[u32], holder: usize, side: usize) -> i64 {
 
 /// The side of a rule's u below v: left for the odd rules.
 fn side_of(rule: u32) -> usize {
-    if rule % 2 == 1 { 0 } else { 1 }
+    if rule % 2 == 1 {
+        0
+    } else {
+        1
+    }
 }
 
 /// The slots that a firing looks at, v first; none with the refusal if one is missing, unfit or met twice.

@@ -1,7 +1,7 @@
 //! Compares the proved library with document 01 written a second time: `compare [CALLS] [SEED]`, or
 //! `compare --case 'CALL : WORDS'` to repeat one case. The last line is `N passed, M failed`.
-//! `compare --scripts PROGRAM COUNT SEED` does the same with the program `stand`, and `compare --stand` prints what that
-//! program has to print for its input.
+//! `compare --scripts PROGRAM COUNT SEED` does the same with the program `stand`, and `compare --stand` prints what
+//! that program has to print for its input.
 
 mod bench;
 mod call;
@@ -51,7 +51,11 @@ fn main() -> ExitCode {
 /// The last line and the status that goes with it.
 fn verdict(passed: u64, failed: u64) -> ExitCode {
     println!("{passed} passed, {failed} failed");
-    if failed == 0 { ExitCode::SUCCESS } else { ExitCode::FAILURE }
+    if failed == 0 {
+        ExitCode::SUCCESS
+    } else {
+        ExitCode::FAILURE
+    }
 }
 
 /// What `stand` has to print for the bytes read.
@@ -82,13 +86,21 @@ fn all(calls: u64, seed: u64) -> ExitCode {
         let (verdict, seconds) = (if good { "same" } else { "DIFFERS" }, begun.elapsed().as_secs_f64());
         println!("{verdict:<8}{:>9} calls {seconds:>6.2} s  {name}", run.calls);
         done += run.calls;
-        if good { passed += 1 } else { failed += 1 }
+        if good {
+            passed += 1
+        } else {
+            failed += 1
+        }
     }
     tally.show();
     println!("{done} calls, seed {seed}, {:.1} s", start.elapsed().as_secs_f64());
     if done >= ENOUGH_CALLS && failed == 0 {
         let missing = tally.unseen();
-        if missing.is_empty() { passed += 1 } else { failed += 1 }
+        if missing.is_empty() {
+            passed += 1
+        } else {
+            failed += 1
+        }
         println!("codes and rules that were not seen: {}", if missing.is_empty() { "none" } else { "some" });
         missing.iter().for_each(|what| println!("  {what}"));
     }

@@ -47,7 +47,11 @@ pub fn link(words: &[u32], holder: usize, side: usize) -> usize {
 
 /// The place of a link.
 pub fn link_place(holder: usize, side: usize) -> usize {
-    if holder == 0 { 0 } else { place(holder, LINK[side]) }
+    if holder == 0 {
+        0
+    } else {
+        place(holder, LINK[side])
+    }
 }
 
 /// All eight words of a slot are zero.

@@ -34,7 +34,13 @@ fn top(dice: &mut Dice, shape: Shape, low: usize, end: usize, depth: usize) -> u
         Shape::Random => dice.between(low, end - 1),
         Shape::LeftChain => end - 1,
         Shape::RightChain => low,
-        Shape::Zigzag => if depth % 2 == 0 { low } else { end - 1 },
+        Shape::Zigzag => {
+            if depth % 2 == 0 {
+                low
+            } else {
+                end - 1
+            }
+        }
         Shape::Middle => (low + end) / 2,
         Shape::Lopsided => low + (end - low) * 3 / 8,
     }
