@@ -47,7 +47,7 @@ use Rattle.scope.specs.declared.outcome.Amending.{Amending}
 use Rattle.scope.specs.declared.outcome.Amending.the-variants as amending-is
 use Rattle.scope.specs.declared.outcome.Dropping.{Dropping}
 use Rattle.scope.specs.declared.outcome.Dropping.the-variants as dropping-is
-use Rattle.scope.specs.declared.outcome.Rank.{Rank}
+use Rattle.scope.specs.declared.outcome.Rank as rank-is
 use Rattle.scope.specs.declared.outcome.Rank.the-variants as ranks
 use Rattle.scope.specs.declared.outcome.Taken.{Taken}
 use Rattle.scope.specs.declared.outcome.Taken.the-variants.{Got, Not}
@@ -114,7 +114,7 @@ module _ (t : List ℕ) where
       (λ why. refl) refl (λ e. neither refl e) (λ c e. refl) (λ c. accepts refl)
 
   -- rank and find
-  ranked-answered : (r : ℕ) (x : Rank) → Answered (codes (Rank r)) t (only t (ranked t x))
+  ranked-answered : (r : ℕ) (x : rank-is.Rank) → Answered (codes (Rank r)) t (only t (ranked t x))
   unfolding ranked
   ranked-answered r (ranks.At slot) = accepts refl
   ranked-answered r (ranks.Past n) = refuses KeyAbsent refl
