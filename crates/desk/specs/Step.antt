@@ -5,7 +5,8 @@ use mathlib.Core.List.{List, [], _++_}
 use lib.ListN.{length, drop, replicate}
 use lib.Dec.{ltb, eqb}
 use Rattle.scope.specs.Answers.{refusal}
-use Rattle.scope.specs.Calls.{Call, find, post, amend, drop as remove, rank, total, worth, fire, tidy, answerOf, tableOf}
+use Rattle.scope.specs.Calls.{Call, answerOf, tableOf}
+use Rattle.scope.specs.Calls as calls
 use Rattle.scope.specs.declared.answer.Refusal.the-variants as refusals
 use Rattle.lines.specs.Text.{firstLine}
 use Rattle.lines.specs.Form.{commandOf}
@@ -23,15 +24,15 @@ pub data Wish : Type 0 where
   nothing : Wish
 
 unfoldable pub wishOf : Command → Wish
-wishOf (Post key pieces state) = call (post key pieces state)
-wishOf (Amend key pieces state) = call (amend key pieces state)
-wishOf (Drop key) = call (remove key)
-wishOf (Find key) = call (find key)
-wishOf (Rank r) = call (rank r)
-wishOf (Total key) = call (total key)
-wishOf Worth = call worth
-wishOf (Fire rule holder side) = call (fire rule holder side)
-wishOf (Tidy budget) = call (tidy budget)
+wishOf (Post key pieces state) = call (calls.Post key pieces state)
+wishOf (Amend key pieces state) = call (calls.Amend key pieces state)
+wishOf (Drop key) = call (calls.Drop key)
+wishOf (Find key) = call (calls.Find key)
+wishOf (Rank r) = call (calls.Rank r)
+wishOf (Total key) = call (calls.Total key)
+wishOf Worth = call calls.Worth
+wishOf (Fire rule holder side) = call (calls.Fire rule holder side)
+wishOf (Tidy budget) = call (calls.Tidy budget)
 wishOf Listing = list
 wishOf Unreadable = nothing
 
