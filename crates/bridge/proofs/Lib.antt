@@ -11,3 +11,4 @@ pub mod Fires
 pub mod Calls
 pub mod Seeks
 pub mod Quiets
+pub mod Wrote
