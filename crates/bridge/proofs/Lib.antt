@@ -12,3 +12,4 @@ pub mod Calls
 pub mod Seeks
 pub mod Quiets
 pub mod Wrote
+pub mod Keyed
