@@ -44,3 +44,52 @@ end-found key (node b x y l r) d e P f =
     (λ q. by-bool (ltb key (b .key))
     (λ g. simp (q, g) (end-found key l d (simp (q, g) at e) P f))
     (λ g. simp (q, g) (end-found key r d (simp (q, g) at e) P f)))
+
+-- an amended tree has the same slots and keys in the same order
+module _ (key pieces state : ℕ) where
+  abbrev pub amendedTree : Tree → Tree
+  amendedTree = atKey key (amendTop pieces state)
+
+  pub amended-times : (k : ℕ) (T : Tree) → times k (amendedTree T) ≡ times k T
+  unfolding atKey amendTop times
+  amended-times k leaf = refl
+  amended-times k (node d a b l r) =
+      by-bool (eqb key (d .key))
+      (λ e. simp e)
+      (λ e. by-bool (ltb key (d .key)) (λ f. simp (e, f, amended-times k l)) (λ f. simp (e, f, amended-times k r)))
+
+  pub amended-size : (T : Tree) → size (amendedTree T) ≡ size T
+  unfolding atKey amendTop size
+  amended-size leaf = refl
+  amended-size (node d a b l r) =
+      by-bool (eqb key (d .key))
+      (λ e. simp e)
+      (λ e. by-bool (ltb key (d .key)) (λ f. simp (e, f, amended-size l)) (λ f. simp (e, f, amended-size r)))
+
+  amended-below : (m : ℕ) (T : Tree) → Below m T → Below m (amendedTree T)
+  unfolding atKey amendTop Below
+  amended-below m leaf h = tt
+  amended-below m (node d a b l r) h =
+      by-bool (eqb key (d .key))
+      (λ e. simp e h)
+      (λ e. by-bool (ltb key (d .key))
+      (λ f. simp (e, f) (h .0, amended-below m l (h .1), h .2)) (λ f. simp (e, f) (h .0, h .1, amended-below m r (h .2))))
+
+  amended-above : (m : ℕ) (T : Tree) → Above m T → Above m (amendedTree T)
+  unfolding atKey amendTop Above
+  amended-above m leaf h = tt
+  amended-above m (node d a b l r) h =
+      by-bool (eqb key (d .key))
+      (λ e. simp e h)
+      (λ e. by-bool (ltb key (d .key))
+      (λ f. simp (e, f) (h .0, amended-above m l (h .1), h .2)) (λ f. simp (e, f) (h .0, h .1, amended-above m r (h .2))))
+
+  pub amended-ordered : (T : Tree) → Ordered T → Ordered (amendedTree T)
+  unfolding atKey amendTop Ordered
+  amended-ordered leaf h = tt
+  amended-ordered (node d a b l r) h =
+      by-bool (eqb key (d .key))
+      (λ e. simp e h)
+      (λ e. by-bool (ltb key (d .key))
+      (λ f. simp (e, f) (amended-below (d .key) l (h .0), h .1, amended-ordered l (h .2), h .3))
+      (λ f. simp (e, f) (h .0, amended-above (d .key) r (h .1), h .2, amended-ordered r (h .3))))

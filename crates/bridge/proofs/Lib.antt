@@ -13,3 +13,4 @@ pub mod Seeks
 pub mod Quiets
 pub mod Wrote
 pub mod Keyed
+pub mod Amends
