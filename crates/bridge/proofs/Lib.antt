@@ -14,3 +14,4 @@ pub mod Quiets
 pub mod Wrote
 pub mod Keyed
 pub mod Amends
+pub mod Settles
