@@ -7,13 +7,14 @@ use mathlib.Core.List.{List, [], _∷_, _++_, map, map-append}
 use native.Mathlib.Omega.{arith}
 use lib.ListN.{length, length-map}
 use lib.Dec.{eqb, ltb, leb}
-use borrow.Author.Tests.{ne-eqb, eqb-true, eqb-false, ltb-true, ltb-false}
+use borrow.Author.Tests.{eq-eqb, ne-eqb, eqb-true, eqb-false, ltb-true, ltb-false}
 use Rattle.scope.proofs.Bools.{by-bool}
 use Rattle.scope.specs.Tree.{Batch, Tree, leaf, node, size, inOrder, Below, Above, Ordered}
 use Rattle.scope.specs.Sums.{totalOf}
-use Rattle.bridge.specs.Seek.{seek}
-use Rattle.ledger.specs.Entries.{Entry, lookup, sumTo}
-use Rattle.ledger.proofs.Lists.{orElse, lookup-append, sum-append}
+use Rattle.bridge.specs.Seek.{seek, atKey, amendTop}
+use Rattle.bridge.proofs.Keyed.{amendedTree}
+use Rattle.ledger.specs.Entries.{Entry, lookup, replace, sumTo}
+use Rattle.ledger.proofs.Lists.{orElse, lookup-append, sum-append, replace-left, replace-right}
 use Rattle.demands.specs.Ledgers.{entryOf, entriesOf}
 
 -- a node's records are those on its left, its own, and those on its right
@@ -76,3 +77,34 @@ total-sum K (node d a b l r) =
 -- and so is the number of records
 pub entries-length : (T : Tree) → length (entriesOf T) ≡ length (inOrder T)
 entries-length T = length-map (inOrder T) entryOf
+
+-- THE AMENDED TREE has the list with that record replaced
+module _ (key pieces state : ℕ) where
+  abbrev new : Entry
+  new = record { key = key; pieces = pieces; state = state }
+
+  pub amended-entries : (T : Tree) → Ordered T → entriesOf (amendedTree key pieces state T) ≡ replace new (entriesOf T)
+  unfolding Ordered atKey amendTop
+  amended-entries leaf h = unfold inOrder replace in refl
+  amended-entries (node d a b l r) h =
+      by-bool (eqb key (d .key))
+      (λ e. simp e (top d a b l r (h .0) (eqb-true key (d .key) e)))
+      (λ e. by-bool (ltb key (d .key))
+      (λ f. simp (e, f) (entries-node d a b (amendedTree key pieces state l) r ∙ ap (λ (x : List Entry). x ++ (entryOf d ∷ entriesOf r)) (amended-entries l (h .2))
+      ∙ sym (rw (entries-node d a b l r) (replace-left new (entriesOf l) (entryOf d ∷ entriesOf r) (after d r e (above-none key (d .key) r (h .1) (omega (arith, ltb-true key (d .key) f))))))))
+      (λ f. simp (e, f) (entries-node d a b l (amendedTree key pieces state r) ∙ ap (λ (x : List Entry). entriesOf l ++ (entryOf d ∷ x)) (amended-entries r (h .3))
+      ∙ sym (rw (entries-node d a b l r) (replace-right new (entriesOf l) (entryOf d ∷ entriesOf r) (below-none key (d .key) l (h .0) (omega (arith, ltb-false key (d .key) f)))
+      ∙ ap (λ (x : List Entry). entriesOf l ++ x) (past d r e))))))
+    where
+      top : (d : Batch) (a b : ℕ) (l r : Tree) → Below (d .key) l → key ≡ d .key
+          → entriesOf (node (record { slot = d .slot; key = d .key; pieces = pieces; state = state }) a b l r) ≡ replace new (entriesOf (node d a b l r))
+      top d a b l r h e =
+          entries-node _ a b l r
+          ∙ sym (rw (entries-node d a b l r) (replace-right new (entriesOf l) (entryOf d ∷ entriesOf r) (below-none key (d .key) l h (omega arith))
+          ∙ unfold replace in rw (eq-eqb key (d .key) e, e) refl))
+
+      after : (d : Batch) (r : Tree) → eqb key (d .key) ≡ false → lookup key (entriesOf r) ≡ none → lookup key (entryOf d ∷ entriesOf r) ≡ none
+      after d r e h = unfold lookup in rw (e, h) refl
+
+      past : (d : Batch) (r : Tree) → eqb key (d .key) ≡ false → replace new (entryOf d ∷ entriesOf r) ≡ entryOf d ∷ replace new (entriesOf r)
+      past d r e = unfold replace in rw e refl
