@@ -24,8 +24,8 @@ use Rattle.scope.specs.declared.outcome.Firing.the-variants.{Refuse, Fire}
 use Rattle.words.proofs.Laws.{fit-son, fits}
 use Rattle.sound.proofs.Frame.{frame}
 use Rattle.tree.specs.Rewrite.{mk, hung, acceptAt, rewriteAt, within}
-use Rattle.tree.specs.Place.{subtree}
-use Rattle.tree.proofs.Steps.{on-top, top-is}
+use Rattle.tree.specs.Place.{subtree, plug}
+use Rattle.tree.proofs.Steps.{no-tree, on-top, top-is}
 use Rattle.tree.proofs.Sides.{times-mk}
 use Rattle.bridge.specs.Edit.{sonOn, withPart, shape}
 use Rattle.bridge.specs.Below.{Hangs, Below}
@@ -156,3 +156,25 @@ hangs-along {t} {c} (s ∷ way) l T S h e =
     on-top s T S _ e (λ X. Hangs t c l X → Hangs t c (linkAlong t (s ∷ way) l) S)
     (λ d p near far q k. hangs-along way (record { holder = word t (linkAt l); side = s }) near S (hangs-down l s d p near far k) q)
     h
+
+-- a change below the link at the end of a way is one below the link where it begins
+on-hung : (s : Side) (d : Batch) (p : Pair) (far T′ : Tree) (o : Option Tree) → hung s d p o far ≡ some T′
+    → (P : Tree → Type 0) → ((near : Tree) → o ≡ some near → P (mk s d p near far)) → P T′
+on-hung s d p far T′ none e P k = no-tree e
+on-hung s d p far T′ (some near) e P k = let q : mk s d p near far ≡ T′ = cc in rw (← q) (k near refl)
+
+pub below-along : {t t′ : List ℕ} {c : ℕ} (way : List Side) (l : Link) (T S S′ T′ : Tree) → Hangs t c l T → subtree way T ≡ some S
+    → plug way S′ T ≡ some T′ → Below t t′ c (linkAlong t way l) S S′ → Below t t′ c l T T′
+unfolding subtree plug linkAlong
+below-along [] l T S S′ T′ h e f b =
+    let q : T ≡ S = cc in
+    let r : T′ ≡ S′ = cc in
+    rw (q, r) b
+below-along {t} {t′} {c} (s ∷ way) l T S S′ T′ h e f b =
+    on-top s T S _ e
+    (λ X. Hangs t c l X → plug (s ∷ way) S′ X ≡ some T′ → Below t t′ c l X T′)
+    (λ d p near far q k g.
+    on-hung s d p far T′ (plug way S′ near) (simp top-is at g) (Below t t′ c l (mk s d p near far))
+    (λ near′ i. above l s d p near far k
+    (below-along way (record { holder = word t (linkAt l); side = s }) near S S′ near′ (hangs-down l s d p near far k) q i b)))
+    h f

@@ -38,13 +38,12 @@ use Rattle.bridge.specs.Fired.{Fired}
 use Rattle.bridge.proofs.Along.{same-along}
 
 -- a good header stays one with another root in range
-new-header : (t t′ : List ℕ) (c : ℕ) → headerOk c t ≡ true → word t′ rootWord ≤ c
-    → ((i : ℕ) → 1 ≤ i → i < 4 → word t′ i ≡ word t i) → headerOk c t′ ≡ true
+pub new-header : (t t′ : List ℕ) (c : ℕ) → headerOk c t ≡ true → word t′ rootWord ≤ c → word t′ countWord ≤ c
+    → word t′ zeroWord ≡ word t zeroWord → headerOk c t′ ≡ true
 unfolding headerOk
-new-header t t′ c e r h =
-    let count = and-r (leb (word t rootWord) c) _ (and-l _ _ e) in
+new-header t t′ c e r n z =
     let zero = and-r (leb (word t rootWord) c && leb (word t countWord) c) _ e in
-    rw (le-leb (word t′ rootWord) c r, h 1 (omega arith) (omega arith), h 3 (omega arith) (omega arith), count, zero) refl
+    rw (le-leb (word t′ rootWord) c r, le-leb (word t′ countWord) c n, z, zero) refl
 
 -- eight zeros begin with one
 blank-state : (x : Slot) → blankSlot x ≡ true → eqb (x .state) 0 ≡ true
@@ -74,7 +73,8 @@ module _ {t : List ℕ} {c : ℕ} (w : Whole t c) where
   still-sound {t′} {T′} b e =
       let top : word t′ rootWord ≡ b .top = b .root in
       let s : Sound t′ c = record {
-        header = new-header t t′ c (w .sound .header) (rw top (b .most)) (b .head);
+        header = new-header t t′ c (w .sound .header) (rw top (b .most))
+            (rw (b .head 1 (omega arith) (omega arith)) (header-count c t (w .sound .header))) (b .head 3 (omega arith) (omega arith));
         tree = T′;
         reached = rw top (b .spells);
         once = λ k i j. rw (times-kept T T′ e k) (w .sound .once k i j);

@@ -11,3 +11,7 @@ pub mod Fires
 pub mod Calls
 pub mod Seeks
 pub mod Quiets
+pub mod Wrote
+pub mod Keyed
+pub mod Amends
+pub mod Settles

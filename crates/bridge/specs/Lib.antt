@@ -5,3 +5,4 @@ pub mod Alike
 pub mod Leads
 pub mod Fired
 pub mod Seek
+pub mod Settled

@@ -29,3 +29,21 @@ visits key (node d a b l r) =
 abbrev pub sought : Option Batch → Link → ℕ → Walk
 sought none link seen = Miss link seen
 sought (some d) link seen = Hit (d .slot) link seen
+
+-- what hangs at the end of the way to a key, and the tree with something else there
+unfoldable pub endOf : ℕ → Tree → Tree
+endOf key leaf = leaf
+endOf key (node d a b l r) =
+    cond (eqb key (d .key)) (node d a b l r) (cond (ltb key (d .key)) (endOf key l) (endOf key r))
+
+unfoldable pub atKey : ℕ → (Tree → Tree) → Tree → Tree
+atKey key f leaf = f leaf
+atKey key f (node d a b l r) =
+    cond (eqb key (d .key)) (f (node d a b l r))
+    (cond (ltb key (d .key)) (node d a b (atKey key f l) r) (node d a b l (atKey key f r)))
+
+-- a node with other pieces and another state in its record
+unfoldable pub amendTop : ℕ → ℕ → Tree → Tree
+amendTop pieces state leaf = leaf
+amendTop pieces state (node d a b l r) =
+    node (record { slot = d .slot; key = d .key; pieces = pieces; state = state }) a b l r

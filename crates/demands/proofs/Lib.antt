@@ -3,3 +3,5 @@ pub mod Open
 pub mod Falls
 pub mod Walks
 pub mod Refusals
+pub mod Entries
+pub mod Answers

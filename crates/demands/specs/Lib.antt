@@ -2,3 +2,4 @@
 pub mod Fires
 pub mod Short
 pub mod Listed
+pub mod Ledgers

@@ -7,7 +7,7 @@ use mathlib.Core.List.{List, [], _∷_, _++_}
 use native.Mathlib.Omega.{arith}
 use lib.Dec.{eqb}
 use Rattle.scope.proofs.Bools.{by-bool}
-use Rattle.ledger.specs.Entries.{Entry, lookup, sumTo}
+use Rattle.ledger.specs.Entries.{Entry, lookup, replace, sumTo}
 
 -- the first, where it is there
 abbrev pub orElse : Option Entry → Option Entry → Option Entry
@@ -24,3 +24,29 @@ pub sum-append : (K : ℕ) (xs ys : List Entry) → sumTo K (xs ++ ys) ≡ sumTo
 unfolding sumTo
 sum-append K [] ys = omega arith
 sum-append K (x ∷ xs) ys = omega (arith, sum-append K xs ys)
+
+-- where a stamp is not, nothing is replaced; so only the part that has it is
+not-here : {X : Type 0} (key : ℕ) (x : Entry) (xs : List Entry) → lookup key (x ∷ xs) ≡ none
+    → (eqb key (x .key) ≡ false → lookup key xs ≡ none → X) → X
+unfolding lookup
+not-here key x xs e k =
+    by-bool (eqb key (x .key))
+    (λ p. let q = simp p at e in let z : _≡_ {A = ℕ} 0 1 = cc in absurd (omega arith))
+    (λ p. k p (simp p at e))
+
+module _ (new : Entry) where
+  replace-none : (xs : List Entry) → lookup (new .key) xs ≡ none → replace new xs ≡ xs
+  unfolding replace
+  replace-none [] e = refl
+  replace-none (x ∷ xs) e = not-here (new .key) x xs e (λ p q. simp (p, replace-none xs q))
+
+  pub replace-left : (xs ys : List Entry) → lookup (new .key) ys ≡ none → replace new (xs ++ ys) ≡ replace new xs ++ ys
+  unfolding replace
+  replace-left [] ys e = replace-none ys e
+  replace-left (x ∷ xs) ys e =
+      by-bool (eqb (new .key) (x .key)) (λ p. simp p) (λ p. simp (p, replace-left xs ys e))
+
+  pub replace-right : (xs ys : List Entry) → lookup (new .key) xs ≡ none → replace new (xs ++ ys) ≡ xs ++ replace new ys
+  unfolding replace
+  replace-right [] ys e = refl
+  replace-right (x ∷ xs) ys e = not-here (new .key) x xs e (λ p q. simp (p, replace-right xs ys q))

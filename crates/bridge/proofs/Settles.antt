@@ -1,0 +1,94 @@
+-- A change below the root, then words 1 and 2: the table is sound again. Assumes nothing.
+use Prim.Native.Nat.{ℕ, _+_, _≤_, _<_}
+use mathlib.Core.Path.{_≡_, refl, sym, _∙_, ap, subst}
+use mathlib.Core.Option.{none, some}
+use mathlib.Core.Bool.{true}
+use mathlib.Core.List.{List}
+use native.Mathlib.Omega.{arith}
+use lib.ListN.{set, length-set}
+use lib.Seq.{getD-set-other}
+use borrow.Author.Tests.{ne-eqb}
+use Rattle.scope.specs.Numbers.{rootLink}
+use Rattle.scope.specs.Table.{word, rootWord, countWord, changeWord, zeroWord, slotAt, withSlot, linkAt}
+use Rattle.scope.specs.Fit.{headerOk}
+use Rattle.scope.specs.Tree.{Batch, Tree, node, size, times}
+use Rattle.scope.specs.Sound.{Spells, Sound}
+use Rattle.scope.specs.Post.{recordOk}
+use Rattle.scope.specs.Amend.{withPieces}
+use Rattle.scope.specs.declared.side.Link.{Link}
+use Rattle.words.proofs.Laws.{header-count}
+use Rattle.sound.specs.Whole.{Whole}
+use Rattle.sound.proofs.Frame.{frame}
+use Rattle.bridge.specs.Below.{Hangs, relinked, Below}
+use Rattle.bridge.specs.Leads.{linkAlong}
+use Rattle.bridge.specs.Seek.{seek, route, endOf, amendTop}
+use Rattle.bridge.specs.Settled.{Settled}
+use Rattle.bridge.proofs.Outside.{first-slot}
+use Rattle.bridge.proofs.Wrote.{head-slots}
+use Rattle.bridge.proofs.Along.{hangs-along, below-along}
+use Rattle.bridge.proofs.Keyed.{end-there, end-plugged, end-found, amendedTree, amended-times, amended-size, amended-ordered}
+use Rattle.bridge.proofs.Amends.{amend-below}
+use Rattle.bridge.proofs.Fires.{hangs-root, new-header}
+
+pub settles : {t t₁ t₂ : List ℕ} {c : ℕ} {T T′ : Tree} → headerOk c t ≡ true → Below t t₁ c rootLink T T′ → Settled t₁ t₂ c T′ → Sound t₂ c
+settles {t} {t₁} {t₂} {c} {T} {T′} e b s =
+    let top : word t₂ rootWord ≡ b .top = s .root ∙ b .root in
+    record {
+      header = new-header t t₂ c e (rw top (b .most)) (omega (arith, s .count, s .room)) (s .zero ∙ b .head 3 (omega arith) (omega arith));
+      tree = T′;
+      reached = rw top (frame t₁ t₂ c (b .top) T′ (λ k i. s .slots k (first-slot t₁ c (b .top) T′ (b .spells) k i)) (b .spells));
+      once = s .once;
+      count = s .count;
+      order = s .order;
+      rest = λ k i j z. rw (s .slots k i) (s .rest k i j z);
+    }
+
+-- the record of a key is amended
+module _ {t : List ℕ} {c : ℕ} (w : Whole t c) (key pieces state : ℕ) (ok : recordOk key pieces state ≡ true) (d : Batch)
+    (found : seek key (w .sound .tree) ≡ some d) (n : ℕ) where
+  abbrev T : Tree
+  T = w .sound .tree
+
+  abbrev l : Link
+  l = linkAlong t (route key T) rootLink
+
+  abbrev t₁ : List ℕ
+  t₁ = withSlot t (d .slot) (withPieces (slotAt t (d .slot)) pieces state)
+
+  at-end : Hangs t c l (endOf key T)
+  at-end = hangs-along (route key T) rootLink T (endOf key T) (hangs-root w) (end-there key T)
+
+  here : (a b : ℕ) (left right : Tree) → Hangs t c l (node d a b left right)
+      → Below t t₁ c l (node d a b left right) (amendTop pieces state (node d a b left right))
+  unfolding Spells
+  here a b left right h =
+      let at : word t (linkAt l) ≡ d .slot = ap (λ (e : Batch). e .slot) (sym (h .spells .holds)) in
+      subst (λ (k : ℕ). Below t (withSlot t k (withPieces (slotAt t k) pieces state)) c l (node d a b left right)
+      (amendTop pieces state (node d a b left right))) at (amend-below l d a b left right h key pieces state ok)
+
+  below-root : Below t t₁ c rootLink T (amendedTree key pieces state T)
+  below-root =
+      below-along (route key T) rootLink T (endOf key T) (amendTop pieces state (endOf key T)) (amendedTree key pieces state T)
+      (hangs-root w) (end-there key T) (end-plugged key (amendTop pieces state) T)
+      (end-found key T d found (λ E. Hangs t c l E → Below t t₁ c l E (amendTop pieces state E)) here at-end)
+
+  outer : (k : ℕ) → 1 ≤ k → relinked rootLink (below-root .top) k (slotAt t k) ≡ slotAt t k
+  outer k i = rw (ne-eqb k 0 (λ q. omega arith)) refl
+
+  pub amended-whole : Sound (set t₁ changeWord n) c
+  amended-whole =
+      settles (w .sound .header) below-root
+      (record {
+        sized = record { room = simp length-set (below-root .sized .room); some = w .sized .some; most = w .sized .most };
+        slots = λ k i. head-slots t₁ changeWord n k (omega arith) i;
+        root = getD-set-other t₁ changeWord rootWord n 0 (λ q. omega arith);
+        zero = getD-set-other t₁ changeWord zeroWord n 0 (λ q. omega arith);
+        count = amended-size key pieces state T ∙ w .sound .count ∙ sym (below-root .head 1 (omega arith) (omega arith))
+            ∙ sym (getD-set-other t₁ changeWord countWord n 0 (λ q. omega arith));
+        room = omega (arith, amended-size key pieces state T, w .sound .count, header-count c t (w .sound .header));
+        once = λ k i j. rw (amended-times key pieces state k T) (w .sound .once k i j);
+        order = amended-ordered key pieces state T (w .sound .order);
+        rest = λ k i j z. let none-there = sym (amended-times key pieces state k T) ∙ z in
+            let stays : slotAt t₁ k ≡ slotAt t k = below-root .slots k i none-there ∙ outer k i in
+            rw stays (w .sound .rest k i j none-there);
+      })

@@ -1,0 +1,110 @@
+-- What is asked of a tree in order is what is asked of its records in a list. Assumes nothing.
+use Prim.Native.Nat.{ℕ, suc, _+_, _≤_, _<_}
+use mathlib.Core.Path.{_≡_, refl, sym, _∙_, ap}
+use mathlib.Core.Bool.{Bool, true, false, cond}
+use mathlib.Core.Option.{Option, none, some}
+use mathlib.Core.List.{List, [], _∷_, _++_, map, map-append}
+use native.Mathlib.Omega.{arith}
+use lib.ListN.{length, length-map}
+use lib.Dec.{eqb, ltb, leb}
+use borrow.Author.Tests.{eq-eqb, ne-eqb, eqb-true, eqb-false, ltb-true, ltb-false}
+use Rattle.scope.proofs.Bools.{by-bool}
+use Rattle.scope.specs.Tree.{Batch, Tree, leaf, node, size, inOrder, Below, Above, Ordered}
+use Rattle.scope.specs.Sums.{totalOf}
+use Rattle.bridge.specs.Seek.{seek, atKey, amendTop}
+use Rattle.bridge.proofs.Keyed.{amendedTree}
+use Rattle.ledger.specs.Entries.{Entry, lookup, replace, sumTo}
+use Rattle.ledger.proofs.Lists.{orElse, lookup-append, sum-append, replace-left, replace-right}
+use Rattle.demands.specs.Ledgers.{entryOf, entriesOf}
+
+-- a node's records are those on its left, its own, and those on its right
+pub entries-node : (d : Batch) (a b : ℕ) (l r : Tree) → entriesOf (node d a b l r) ≡ entriesOf l ++ (entryOf d ∷ entriesOf r)
+unfolding inOrder
+entries-node d a b l r = map-append entryOf (inOrder l) (d ∷ inOrder r)
+
+pub lookup-node : (key : ℕ) (d : Batch) (a b : ℕ) (l r : Tree) → lookup key (entriesOf (node d a b l r))
+    ≡ orElse (lookup key (entriesOf l)) (cond (eqb key (d .key)) (some (entryOf d)) (lookup key (entriesOf r)))
+unfolding lookup
+lookup-node key d a b l r = rw (entries-node d a b l r) (lookup-append key (entriesOf l) (entryOf d ∷ entriesOf r))
+
+-- a key beyond all of a tree's is not in it
+module _ (key : ℕ) where
+  absent : (d : Batch) (a b : ℕ) (l r : Tree) → lookup key (entriesOf l) ≡ none → (key ≡ d .key → ⊥) → lookup key (entriesOf r) ≡ none
+      → lookup key (entriesOf (node d a b l r)) ≡ none
+  absent d a b l r p ne q = lookup-node key d a b l r ∙ rw (p, ne-eqb key (d .key) ne, q) refl
+
+  pub below-none : (m : ℕ) (T : Tree) → Below m T → m ≤ key → lookup key (entriesOf T) ≡ none
+  unfolding Below
+  below-none m leaf h i = unfold inOrder lookup in refl
+  below-none m (node d a b l r) h i =
+      absent d a b l r (below-none m l (h .1) i) (λ e. omega (arith, h .0)) (below-none m r (h .2) i)
+
+  pub above-none : (m : ℕ) (T : Tree) → Above m T → key ≤ m → lookup key (entriesOf T) ≡ none
+  unfolding Above
+  above-none m leaf h i = unfold inOrder lookup in refl
+  above-none m (node d a b l r) h i =
+      absent d a b l r (above-none m l (h .1) i) (λ e. omega (arith, h .0)) (above-none m r (h .2) i)
+
+abbrev pub mapEntry : Option Batch → Option Entry
+mapEntry none = none
+mapEntry (some d) = some (entryOf d)
+
+or-none : (x : Option Entry) → orElse x none ≡ x
+or-none none = refl
+or-none (some e) = refl
+
+-- THE SEARCH IN AN ORDERED TREE finds what the list has
+pub seek-lookup : (key : ℕ) (T : Tree) → Ordered T → lookup key (entriesOf T) ≡ mapEntry (seek key T)
+unfolding Ordered seek
+seek-lookup key leaf h = unfold inOrder lookup in refl
+seek-lookup key (node d a b l r) h =
+    by-bool (eqb key (d .key))
+    (λ e. let none-l = below-none key (d .key) l (h .0) (omega (arith, eqb-true key (d .key) e)) in
+    lookup-node key d a b l r ∙ rw (none-l, e) refl)
+    (λ e. by-bool (ltb key (d .key))
+    (λ f. let none-r = above-none key (d .key) r (h .1) (omega (arith, ltb-true key (d .key) f)) in
+    lookup-node key d a b l r ∙ rw (e, f, none-r) (or-none (lookup key (entriesOf l)) ∙ seek-lookup key l (h .2)))
+    (λ f. let none-l = below-none key (d .key) l (h .0) (omega (arith, ltb-false key (d .key) f)) in
+    lookup-node key d a b l r ∙ rw (e, f, none-l) (seek-lookup key r (h .3))))
+
+-- the total of a tree is that of its list
+pub total-sum : (K : ℕ) (T : Tree) → totalOf K T ≡ sumTo K (entriesOf T)
+unfolding totalOf inOrder sumTo
+total-sum K leaf = refl
+total-sum K (node d a b l r) =
+    omega (arith, total-sum K l, total-sum K r, ap (sumTo K) (entries-node d a b l r), sum-append K (entriesOf l) (entryOf d ∷ entriesOf r))
+
+-- and so is the number of records
+pub entries-length : (T : Tree) → length (entriesOf T) ≡ length (inOrder T)
+entries-length T = length-map (inOrder T) entryOf
+
+-- THE AMENDED TREE has the list with that record replaced
+module _ (key pieces state : ℕ) where
+  abbrev new : Entry
+  new = record { key = key; pieces = pieces; state = state }
+
+  pub amended-entries : (T : Tree) → Ordered T → entriesOf (amendedTree key pieces state T) ≡ replace new (entriesOf T)
+  unfolding Ordered atKey amendTop
+  amended-entries leaf h = unfold inOrder replace in refl
+  amended-entries (node d a b l r) h =
+      by-bool (eqb key (d .key))
+      (λ e. simp e (top d a b l r (h .0) (eqb-true key (d .key) e)))
+      (λ e. by-bool (ltb key (d .key))
+      (λ f. simp (e, f) (entries-node d a b (amendedTree key pieces state l) r ∙ ap (λ (x : List Entry). x ++ (entryOf d ∷ entriesOf r)) (amended-entries l (h .2))
+      ∙ sym (rw (entries-node d a b l r) (replace-left new (entriesOf l) (entryOf d ∷ entriesOf r) (after d r e (above-none key (d .key) r (h .1) (omega (arith, ltb-true key (d .key) f))))))))
+      (λ f. simp (e, f) (entries-node d a b l (amendedTree key pieces state r) ∙ ap (λ (x : List Entry). entriesOf l ++ (entryOf d ∷ x)) (amended-entries r (h .3))
+      ∙ sym (rw (entries-node d a b l r) (replace-right new (entriesOf l) (entryOf d ∷ entriesOf r) (below-none key (d .key) l (h .0) (omega (arith, ltb-false key (d .key) f)))
+      ∙ ap (λ (x : List Entry). entriesOf l ++ x) (past d r e))))))
+    where
+      top : (d : Batch) (a b : ℕ) (l r : Tree) → Below (d .key) l → key ≡ d .key
+          → entriesOf (node (record { slot = d .slot; key = d .key; pieces = pieces; state = state }) a b l r) ≡ replace new (entriesOf (node d a b l r))
+      top d a b l r h e =
+          entries-node _ a b l r
+          ∙ sym (rw (entries-node d a b l r) (replace-right new (entriesOf l) (entryOf d ∷ entriesOf r) (below-none key (d .key) l h (omega arith))
+          ∙ unfold replace in rw (eq-eqb key (d .key) e, e) refl))
+
+      after : (d : Batch) (r : Tree) → eqb key (d .key) ≡ false → lookup key (entriesOf r) ≡ none → lookup key (entryOf d ∷ entriesOf r) ≡ none
+      after d r e h = unfold lookup in rw (e, h) refl
+
+      past : (d : Batch) (r : Tree) → eqb key (d .key) ≡ false → replace new (entryOf d ∷ entriesOf r) ≡ entryOf d ∷ replace new (entriesOf r)
+      past d r e = unfold replace in rw e refl

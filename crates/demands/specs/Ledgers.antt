@@ -1,0 +1,26 @@
+-- The ledger of a table: its records in the order of their keys, its change number, and its slots. Assumes nothing.
+use Prim.Native.Nat.{ℕ}
+use mathlib.Core.List.{List, map}
+use Rattle.scope.specs.Table.{word, changeWord}
+use Rattle.scope.specs.Tree.{Batch, Tree, inOrder}
+use Rattle.scope.specs.Sound.{treeIn}
+use Rattle.scope.specs.declared.answer.Answer.{Answer}
+use Rattle.ledger.specs.Entries.{Entry}
+use Rattle.ledger.specs.Ledger.{Ledger}
+
+-- a record without its slot
+abbrev pub entryOf : Batch → Entry
+entryOf d = record { key = d .key; pieces = d .pieces; state = d .state }
+
+abbrev pub entriesOf : Tree → List Entry
+entriesOf T = map entryOf (inOrder T)
+
+abbrev pub ledgerOf : List ℕ → ℕ → Ledger
+ledgerOf t c = record { entries = entriesOf (treeIn t c); change = word t changeWord; capacity = c }
+
+-- an answer with the visits, or the slot, left out
+abbrev pub noVisits : Answer → Answer
+noVisits a = record { code = a .code; change = a .change; value = a .value; more = 0; kind = a .kind }
+
+abbrev pub noSlot : Answer → Answer
+noSlot a = record { code = a .code; change = a .change; value = 0; more = a .more; kind = a .kind }
