@@ -1,1 +1,2 @@
+-- The definitions that the contracts of `desk` cite.
 pub mod Step

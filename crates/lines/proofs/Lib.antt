@@ -1,3 +1,4 @@
+-- What is proved in `lines` beside its functions.
 pub mod Digits
 pub mod Numbers
 pub mod Words

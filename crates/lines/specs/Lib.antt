@@ -1,3 +1,4 @@
+-- The definitions that the contracts of `lines` cite.
 pub mod Text
 pub mod Decimal
 pub mod Number

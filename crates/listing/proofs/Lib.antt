@@ -1,2 +1,3 @@
+-- What is proved in `listing` beside its functions.
 pub mod Slots
 pub mod Records

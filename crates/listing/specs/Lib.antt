@@ -1,1 +1,2 @@
+-- The definitions that the contracts of `listing` cite.
 pub mod List

@@ -1,2 +1,3 @@
+-- What is proved in `printing` beside its functions.
 pub mod Laid
 pub mod Kept

@@ -1,3 +1,4 @@
+-- `marks::marked` meets its contract. Assumes nothing.
 use Prim.Native.Nat.{ℕ, _/_, _%_, _^_}
 use mathlib.Core.Path.{ap}
 use lib.Bits.{and-mask}

@@ -1,3 +1,4 @@
+-- `sound::check` meets its contract. Assumes nothing.
 use Rattle.scope.specs.Sums.{checkAnswer}
 use Rattle.sound.proofs.Opened.{opened, headed}
 use mathlib.Core.Path.{sym}

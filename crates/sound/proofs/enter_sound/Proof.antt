@@ -1,3 +1,4 @@
+-- `sound::enter_sound` meets its contract. Assumes nothing.
 use mathlib.Core.Path.{sym, _∙_}
 use Rattle.words.proofs.Laws.{gate-ready}
 use Rattle.sound.proofs.Opened.{shut-too, open-too}

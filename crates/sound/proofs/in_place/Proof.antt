@@ -1,3 +1,4 @@
+-- `sound::in_place` meets its contract. Assumes nothing.
 use Rattle.sound.specs.Scan.{inPlace}
 use mathlib.Core.Path.{sym}
 use borrow.Author.Needs.{needs}

@@ -1,3 +1,4 @@
+-- `sound::told` meets its contract. Assumes nothing.
 use mathlib.Core.Path.{sym}
 use borrow.Author.Needs.{needs}
 use Rattle.sound.proofs.told.Statement.{statement}

@@ -1,3 +1,4 @@
+-- `sound::visit` meets its contract. Assumes nothing.
 use borrow.Author.Needs.{needs}
 use Rattle.sound.proofs.Steps.{twice, misplaced, entered}
 use Rattle.sound.proofs.visit.Statement.{statement}

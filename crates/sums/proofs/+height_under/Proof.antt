@@ -1,3 +1,4 @@
+-- `sums::height_under` meets its contract. Assumes nothing.
 use native.Mathlib.Omega.{arith}
 use Rattle.scope.specs.Tree.{trueHeight}
 use Rattle.sums.proofs.Down.{Forked, in-reach, forked, says-leaf}

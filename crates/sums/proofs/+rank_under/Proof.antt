@@ -1,3 +1,4 @@
+-- `sums::rank_under` meets its contract. Assumes nothing.
 use native.Mathlib.Omega.{arith}
 use borrow.Author.Needs.{needs}
 use Rattle.sums.proofs.Down.{Forked, in-reach, forked}

@@ -1,3 +1,4 @@
+-- `sums::total_under` meets its contract. Assumes nothing.
 use native.Mathlib.Omega.{arith}
 use borrow.Author.Needs.{needs}
 use Rattle.scope.specs.Sums.{totalOf}

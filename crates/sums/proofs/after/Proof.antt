@@ -1,3 +1,4 @@
+-- `sums::after` meets its contract. Assumes nothing.
 use native.Mathlib.Omega.{arith}
 use borrow.Author.Needs.{needs}
 use Rattle.sums.proofs.after.Statement.{statement}

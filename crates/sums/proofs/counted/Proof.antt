@@ -1,3 +1,4 @@
+-- `sums::counted` meets its contract. Assumes nothing.
 use Rattle.sums.specs.Hangs.{counted}
 use mathlib.Core.Path.{sym}
 use borrow.Author.Tests.{le-leb, lt-leb}

@@ -1,3 +1,4 @@
+-- `sums::fork_at` meets its contract. Assumes nothing.
 use mathlib.Core.Path.{sym}
 use borrow.Author.Needs.{needs}
 use Rattle.sums.proofs.fork_at.Statement.{statement}

@@ -1,3 +1,4 @@
+-- `sums::height` meets its contract. Assumes nothing.
 use Rattle.sound.proofs.Opened.{opened, headed}
 use Rattle.sums.specs.Hangs.{heightAnswer}
 use mathlib.Core.Path.{sym}

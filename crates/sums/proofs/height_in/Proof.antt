@@ -1,3 +1,4 @@
+-- `sums::height_in` meets its contract. Assumes nothing.
 use Rattle.scope.specs.Tree.{trueHeight}
 use Rattle.sums.proofs.Down.{rooted, said}
 use borrow.Author.Needs.{needs}

@@ -1,3 +1,4 @@
+-- `sums::rank` meets its contract. Assumes nothing.
 use mathlib.Core.Path.{sym}
 use native.Mathlib.Omega.{arith}
 use lib.Dec.{eqb}

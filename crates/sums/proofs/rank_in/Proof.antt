@@ -1,3 +1,4 @@
+-- `sums::rank_in` meets its contract. Assumes nothing.
 use Rattle.scope.specs.Sums.{rankOf}
 use Rattle.sums.proofs.Down.{rooted, said}
 use borrow.Author.Needs.{needs}

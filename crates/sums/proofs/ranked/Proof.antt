@@ -1,3 +1,4 @@
+-- `sums::ranked` meets its contract. Assumes nothing.
 use Rattle.scope.specs.Sums.{ranked}
 use mathlib.Core.Path.{sym}
 use borrow.Author.Needs.{needs}

@@ -1,3 +1,4 @@
+-- `sums::total` meets its contract. Assumes nothing.
 use Rattle.scope.specs.Sums.{totalAnswer}
 use Rattle.sound.proofs.Opened.{opened, headed}
 use mathlib.Core.Path.{sym}

@@ -1,3 +1,4 @@
+-- `sums::total_in` meets its contract. Assumes nothing.
 use Rattle.scope.specs.Sums.{totalOf}
 use Rattle.sums.proofs.Down.{rooted, said}
 use borrow.Author.Needs.{needs}

@@ -1,3 +1,4 @@
+-- `weigh::carry` meets its contract. Assumes nothing.
 use Prim.Native.Nat.{_-_}
 use native.Mathlib.Omega.{arith}
 use Rattle.weigh.proofs.Weight.{product, no-product}

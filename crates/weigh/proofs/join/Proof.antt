@@ -1,3 +1,4 @@
+-- `weigh::join` meets its contract. Assumes nothing.
 use borrow.Author.Needs.{needs}
 use Rattle.weigh.proofs.join.Statement.{statement}
 use Rattle.weigh.proofs.join.Tie as tie

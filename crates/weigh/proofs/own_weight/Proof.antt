@@ -1,3 +1,4 @@
+-- `weigh::own_weight` meets its contract. Assumes nothing.
 use native.Mathlib.Omega.{arith}
 use Rattle.weigh.proofs.Weight.{own-eq, own-most}
 use borrow.Author.Needs.{needs}

@@ -1,3 +1,4 @@
+-- `weigh::top` meets its contract. Assumes nothing.
 use mathlib.Core.Path.{refl, ap, _∙_}
 use native.Mathlib.Omega.{arith}
 use Rattle.scope.specs.Tree.{over}

@@ -1,3 +1,4 @@
+-- `weigh::worth` meets its contract. Assumes nothing.
 use Rattle.scope.specs.Worth.{worthAnswer}
 use Rattle.sound.proofs.Opened.{opened, headed}
 use mathlib.Core.Path.{sym}

@@ -1,3 +1,4 @@
+-- `weigh::worth_in` meets its contract. Assumes nothing.
 use native.Mathlib.Omega.{arith}
 use Rattle.sums.proofs.Down.{rooted}
 use Rattle.weigh.proofs.Under.{worth-whole}

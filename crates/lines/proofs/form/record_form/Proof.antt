@@ -1,3 +1,4 @@
+-- `lines::form::record_form` meets its contract. Assumes nothing.
 use Rattle.lines.proofs.Trying.{form-tried}
 use borrow.Author.Needs.{needs}
 use Rattle.lines.proofs.form.record_form.Statement.{statement}

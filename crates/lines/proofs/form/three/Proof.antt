@@ -1,3 +1,4 @@
+-- `lines::form::three` meets its contract. Assumes nothing.
 use Rattle.lines.specs.Read.{fieldsThen}
 use borrow.Author.Needs.{needs}
 use Rattle.lines.proofs.form.three.Statement.{statement}

@@ -1,3 +1,4 @@
+-- `lines::form::three_forms` meets its contract. Assumes nothing.
 use Rattle.lines.specs.Form.{formOf}
 use Rattle.lines.proofs.Trying.{form-tried, tried-then}
 use borrow.Author.Needs.{needs}
