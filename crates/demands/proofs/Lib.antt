@@ -2,6 +2,8 @@
 pub mod Open
 pub mod Falls
 pub mod Walks
+pub mod Either
+pub mod FireRefusals
 pub mod Refusals
 pub mod Entries
 pub mod Answers
