@@ -23,12 +23,6 @@ use Rattle.scope.specs.declared.rule.RuleIs.the-variants as rule-is
 use Rattle.scope.specs.declared.side.Link.{Link}
 use Rattle.scope.specs.declared.side.LinkIs.{LinkIs}
 use Rattle.scope.specs.declared.side.LinkIs.the-variants as link-is
-use Rattle.scope.specs.declared.outcome.Leftmost.the-variants as leftmost
-use Rattle.scope.specs.declared.outcome.Posting.the-variants as posting-is
-use Rattle.scope.specs.declared.outcome.Amending.the-variants as amending-is
-use Rattle.scope.specs.declared.outcome.Dropping.the-variants as dropping-is
-use Rattle.scope.specs.declared.outcome.Rank as rank-is
-use Rattle.scope.specs.declared.outcome.Rank.the-variants as ranks
 use Rattle.scope.specs.declared.outcome.Taken.{Taken}
 use Rattle.scope.specs.declared.outcome.Taken.the-variants.{Got, Not}
 use Rattle.scope.specs.declared.outcome.Nodes.{Nodes}

@@ -28,10 +28,8 @@ use Rattle.scope.specs.declared.answer.Gate.the-variants.{Shut, Open}
 use Rattle.scope.specs.declared.slot.Slot.{Slot}
 use Rattle.scope.specs.declared.slots.SlotsIs.{SlotsIs}
 use Rattle.scope.specs.declared.slots.SlotsIs.the-variants.{Within, Outside}
-use Rattle.scope.specs.declared.rule.RuleIs.the-variants as rule-is
 use Rattle.scope.specs.declared.side.Side.the-variants.{Right}
 use Rattle.scope.specs.declared.side.Link.{Link}
-use Rattle.scope.specs.declared.side.LinkIs.the-variants as link-is
 use Rattle.scope.specs.declared.outcome.Walk.{Walk}
 use Rattle.scope.specs.declared.outcome.Walk.the-variants.{Hit, Miss, Damage}
 use Rattle.scope.specs.declared.outcome.Leftmost.{Leftmost}
@@ -44,7 +42,6 @@ use Rattle.scope.specs.declared.outcome.Dropping.{Dropping}
 use Rattle.scope.specs.declared.outcome.Dropping.the-variants as dropping-is
 use Rattle.scope.specs.declared.outcome.Rank as rank-is
 use Rattle.scope.specs.declared.outcome.Rank.the-variants as ranks
-use Rattle.scope.specs.declared.outcome.Firing.the-variants as firing
 use Rattle.demands.specs.Listed.{codes, among, Answered, accepts, refuses}
 use Rattle.demands.proofs.Either.{either}
 use Rattle.demands.proofs.FireRefusals.{fire-answered}
