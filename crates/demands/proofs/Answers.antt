@@ -66,7 +66,7 @@ module _ {t : List ℕ} {c : ℕ} (w : Whole t c) where
       let state : slotAt t (d .slot) .state ≡ d .state = ap (λ (b : Batch). b .state) (sym at) in
       rw (pieces, state) refl
 
-  lookup-is : (key : ℕ) → mapEntry (seek key T) ≡ lookup key (ledgerOf t c .entries)
+  pub lookup-is : (key : ℕ) → mapEntry (seek key T) ≡ lookup key (ledgerOf t c .entries)
   lookup-is key = rw (tree-in t c (w .sound)) (sym (seek-lookup key T (w .sound .order)))
 
   -- FIND, its visits apart

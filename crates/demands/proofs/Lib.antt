@@ -5,3 +5,4 @@ pub mod Walks
 pub mod Refusals
 pub mod Entries
 pub mod Answers
+pub mod Amending
