@@ -46,7 +46,7 @@ new-header t t′ c e r n z =
     rw (le-leb (word t′ rootWord) c r, le-leb (word t′ countWord) c n, z, zero) refl
 
 -- eight zeros begin with one
-blank-state : (x : Slot) → blankSlot x ≡ true → eqb (x .state) 0 ≡ true
+pub blank-state : (x : Slot) → blankSlot x ≡ true → eqb (x .state) 0 ≡ true
 unfolding blankSlot
 blank-state x e =
     and-l _ _ (and-l _ _ (and-l _ _ (and-l _ _ (and-l _ _ (and-l _ _ (and-l _ _ e))))))

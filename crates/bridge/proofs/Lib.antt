@@ -15,3 +15,5 @@ pub mod Wrote
 pub mod Keyed
 pub mod Amends
 pub mod Settles
+pub mod Grown
+pub mod Free
