@@ -17,3 +17,4 @@ pub mod Amends
 pub mod Settles
 pub mod Grown
 pub mod Free
+pub mod Posts
