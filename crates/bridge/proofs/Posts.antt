@@ -77,3 +77,100 @@ along-same t t′ c (s ∷ way) l T S p e h q =
     (link-son t′ down (a .there) ∙ rw there refl ∙ sym (link-son t down (a .there)))
     (λ k z. h k (omega (arith, times-mk s d x near far k))) i))
     p h
+
+-- k is a free slot, and the key is not found
+module _ {t : List ℕ} {c : ℕ} (w : Whole t c) (key pieces state : ℕ) (ok : recordOk key pieces state ≡ true)
+    (missing : seek key (w .sound .tree) ≡ none) (k : ℕ) (first : 1 ≤ k) (most : k ≤ c) (free : times k (w .sound .tree) ≡ 0)
+    (room : size (w .sound .tree) < c) where
+  abbrev T : Tree
+  T = w .sound .tree
+
+  abbrev new : Batch
+  new = record { slot = k; key = key; pieces = pieces; state = state }
+
+  abbrev way : List Side
+  way = route key T
+
+  abbrev l : Link
+  l = linkAlong t way rootLink
+
+  -- the leaf is written
+  abbrev t₀ : List ℕ
+  t₀ = withSlot t k (leafSlot key pieces state)
+
+  same-slots : (j : ℕ) → 1 ≤ times j T → slotAt t₀ j ≡ slotAt t j
+  same-slots j h =
+      slot-there (w .sized) k (leafSlot key pieces state) first most j
+      (first-slot t c (word t rootWord) T (w .sound .reached) j h) (λ q. omega (arith, ap (λ (i : ℕ). times i T) q))
+
+  root-same : word t₀ rootWord ≡ word t rootWord
+  root-same = slot-head (w .sized) k (leafSlot key pieces state) first most 0 (omega arith)
+
+  still-hangs : Hangs t₀ c rootLink T
+  unfolding linkAt
+  still-hangs =
+      record {
+        sized = slot-sized (w .sized) k (leafSlot key pieces state) first most;
+        holder = omega arith;
+        most = rw root-same (header-root c t (w .sound .header));
+        spells = rw root-same (frame t t₀ c (word t rootWord) T same-slots (w .sound .reached));
+        once = once-all t c (w .sound);
+        apart = none-at-0 t c (word t rootWord) T (w .sound .reached);
+      }
+
+  same-link : linkAlong t₀ way rootLink ≡ l
+  unfolding linkAt
+  same-link = along-same t t₀ c way rootLink T (endOf key T) (w .sound .reached) root-same same-slots (end-there key T)
+
+  at-end : Hangs t₀ c l leaf
+  at-end = rw (← same-link, ← end-missing key T missing) (hangs-along way rootLink T (endOf key T) still-hangs (end-there key T))
+
+  not-holder : k ≡ l .holder → ⊥
+  unfolding linkAt
+  not-holder q =
+      let h = leads-holder t c way rootLink T (endOf key T) (w .sound .reached) (end-there key T) in
+      omega (arith, same-none (l .holder) 0 (λ z. omega arith), ap (λ (i : ℕ). times i T) q)
+
+  -- the link takes it
+  abbrev linked : List Edit
+  linked = edit (l .holder) (sonOn (l .side)) k ∷ []
+
+  abbrev t₁ : List ℕ
+  t₁ = set t₀ (linkAt l) k
+
+  wrote : Rewritten t₀ t₁ c linked
+  unfolding written writes linkAt
+  wrote = rewritten (still-hangs .sized) linked (at-end .holder, tt)
+
+  slot-k : slotAt t₁ k ≡ leafSlot key pieces state
+  unfolding edited
+  slot-k =
+      wrote .slots k first ∙ rw (ne-eqb k (l .holder) not-holder)
+      (slot-here (w .sized) k (leafSlot key pieces state) first most)
+
+  leaf-below : Below t₀ t₁ c l leaf (node new 0 0 leaf leaf)
+  unfolding Spells edited rooted
+  leaf-below =
+      record {
+        sized = wrote .sized;
+        top = k;
+        first = first;
+        most = most;
+        spells = record {
+          there = first;
+          fit = rw slot-k (fit-leaf c key pieces state ok);
+          holds = rw slot-k refl;
+          lefth = rw slot-k refl;
+          righth = rw slot-k refl;
+          left = rw slot-k refl;
+          right = rw slot-k refl;
+        };
+        slots = λ j i z. wrote .slots j i;
+        root = wrote .root;
+        head = wrote .head;
+      }
+
+  below-root : Below t₀ t₁ c rootLink T (grown new T)
+  below-root =
+      below-along way rootLink T (endOf key T) (node new 0 0 leaf leaf) (grown new T) still-hangs (end-there key T)
+      (end-plugged key (λ E. node new 0 0 leaf leaf) T) (rw (same-link, end-missing key T missing) leaf-below)
