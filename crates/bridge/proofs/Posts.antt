@@ -70,7 +70,7 @@ along-same t t′ c (s ∷ way) l T S p e h q =
     let a = look t c (word t (linkAt l)) d x near far s p in
     let down : Link = record { holder = word t (linkAt l); side = s } in
     let here : times (word t (linkAt l)) (mk s d x near far) ≡ same (word t (linkAt l)) (word t (linkAt l)) + (times (word t (linkAt l)) near + times (word t (linkAt l)) far)
-        = times-mk s d x near far _ ∙ rw (ap (λ (b : Batch). b .slot) (a .holds)) refl in
+    = times-mk s d x near far _ ∙ rw (ap (λ (b : Batch). b .slot) (a .holds)) refl in
     let there = h (word t (linkAt l)) (omega (arith, here, same-one (word t (linkAt l)) (word t (linkAt l)) refl)) in
     rw e
     (along-same t t′ c way down near S (rw (link-son t down (a .there)) (a .nearSon))
@@ -174,3 +174,58 @@ module _ {t : List ℕ} {c : ℕ} (w : Whole t c) (key pieces state : ℕ) (ok :
   below-root =
       below-along way rootLink T (endOf key T) (node new 0 0 leaf leaf) (grown new T) still-hangs (end-there key T)
       (end-plugged key (λ E. node new 0 0 leaf leaf) T) (rw (same-link, end-missing key T missing) leaf-below)
+
+  header₀ : headerOk c t₀ ≡ true
+  header₀ =
+      new-header t t₀ c (w .sound .header) (rw root-same (header-root c t (w .sound .header)))
+      (rw (slot-head (w .sized) k (leafSlot key pieces state) first most 1 (omega arith)) (header-count c t (w .sound .header)))
+      (slot-head (w .sized) k (leafSlot key pieces state) first most 3 (omega arith))
+
+  abbrev t₂ : List ℕ
+  t₂ = hung t k l (leafSlot key pieces state)
+
+  stays : (j : ℕ) → 1 ≤ j → (j ≡ k → ⊥) → times j T ≡ 0 → slotAt t₁ j ≡ slotAt t j
+  stays j i ne z =
+      below-root .slots j i z ∙ rw (ne-eqb j 0 (λ q. omega arith)) (slot-there (w .sized) k (leafSlot key pieces state) first most j i ne)
+
+  once′ : (j : ℕ) → 1 ≤ j → j ≤ c → times j (grown new T) ≤ 1
+  once′ j a b =
+      elim (ℕ-discrete j k) [
+        | yes e ↦ omega (arith, grown-times new j T missing, same-one j k e, ap (λ (i : ℕ). times i T) e)
+        | no ne ↦ omega (arith, grown-times new j T missing, same-none j k ne, w .sound .once j a b)
+      ]
+
+  settled : Settled t₁ t₂ c (grown new T)
+  unfolding hung
+  settled =
+      let n = word t countWord + 1 in
+      let m = word t changeWord + 1 in
+      let u = set t₁ countWord n in
+      record {
+        sized = record { room = simp length-set (still-hangs .sized .room); some = w .sized .some; most = w .sized .most };
+        slots = λ j i. head-slots u changeWord m j (omega arith) i ∙ head-slots t₁ countWord n j (omega arith) i;
+        root = getD-set-other u changeWord rootWord m 0 (λ q. omega arith) ∙ getD-set-other t₁ countWord rootWord n 0 (λ q. omega arith);
+        zero = getD-set-other u changeWord zeroWord m 0 (λ q. omega arith) ∙ getD-set-other t₁ countWord zeroWord n 0 (λ q. omega arith);
+        count = counts ∙ sym (getD-set-other u changeWord countWord m 0 (λ q. omega arith) ∙ getD-set-same t₁ countWord n 0 (omega (arith, wrote .sized .room)));
+        room = omega (arith, grown-size new T missing);
+        once = once′;
+        order = grown-ordered new T missing (w .sound .order);
+        rest = λ j i b z. let ne : j ≡ k → ⊥ = λ q. omega (arith, grown-times new j T missing, same-one j k q) in
+            let none-there : times j T ≡ 0 = omega (arith, grown-times new j T missing) in
+            rw (stays j i ne none-there) (w .sound .rest j i b none-there);
+      }
+    where
+      counts : size (grown new T) ≡ word t countWord + 1
+      counts = omega (arith, grown-size new T missing, w .sound .count)
+
+  pub posted-whole : Spelled t₂ c (grown new T)
+  posted-whole = settles header₀ below-root settled
+
+  pub posted-sized : Sized t₂ c
+  posted-sized = settled .sized
+
+  pub posted-change : word t₂ changeWord ≡ word t changeWord + 1
+  unfolding hung
+  posted-change =
+      getD-set-same (set t₁ countWord (word t countWord + 1)) changeWord (word t changeWord + 1) 0
+      (simp length-set (omega (arith, still-hangs .sized .room)))
