@@ -117,7 +117,7 @@ entries-size (node d a b l r) =
     ap length (entries-node d a b l r) ∙ length-append (entriesOf l) (entryOf d ∷ entriesOf r)
     ∙ omega (arith, entries-size l, entries-size r)
 
-not-less : (a b : ℕ) → b ≤ a → ltb a b ≡ false
+pub not-less : (a b : ℕ) → b ≤ a → ltb a b ≡ false
 not-less a b h = by-bool (ltb a b) (λ e. absurd (omega (arith, ltb-true a b e))) (λ e. e)
 
 below-before : (key m : ℕ) (T : Tree) → Below m T → m ≤ key → NoneAfter key (entriesOf T)

@@ -6,3 +6,4 @@ pub mod Refusals
 pub mod Entries
 pub mod Answers
 pub mod Amending
+pub mod Posting
