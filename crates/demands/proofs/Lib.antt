@@ -7,3 +7,4 @@ pub mod Entries
 pub mod Answers
 pub mod Amending
 pub mod Posting
+pub mod Firing
