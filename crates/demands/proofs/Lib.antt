@@ -8,3 +8,4 @@ pub mod Answers
 pub mod Amending
 pub mod Posting
 pub mod Firing
+pub mod Ranks
