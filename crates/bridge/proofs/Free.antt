@@ -1,15 +1,14 @@
 -- The free slots of a sound table: there is one exactly if it has fewer records than slots. Assumes nothing.
 use Prim.Native.Nat.{ℕ, zero, suc, _+_, _≤_, _<_}
-use mathlib.Core.Path.{_≡_, refl, sym, _∙_, ap}
-use mathlib.Core.Bool.{Bool, true, false, cond}
+use mathlib.Core.Path.{_≡_, refl, ap}
+use mathlib.Core.Bool.{true, false}
 use mathlib.Core.List.{List}
 use native.Mathlib.Omega.{arith}
 use native.Mathlib.Decide.{decLe, ℕ-discrete}
 use lib.Dec.{eqb}
-use borrow.Author.Tests.{eq-eqb, ne-eqb, eqb-true, eqb-false}
 use Rattle.scope.proofs.Bools.{by-bool, neither}
 use Rattle.scope.specs.Table.{word, rootWord, slotAt}
-use Rattle.scope.specs.Fit.{fitSlot, blankSlot}
+use Rattle.scope.specs.Fit.{fitSlot}
 use Rattle.scope.specs.Tree.{Batch, Tree, leaf, node, size, times, same}
 use Rattle.scope.specs.Sound.{Spells}
 use Rattle.scope.specs.Post.{freeFrom, freeSlot}

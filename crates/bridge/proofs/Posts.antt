@@ -1,7 +1,7 @@
 -- A leaf in a free slot, hung where its key belongs: the table is sound, and spells the grown tree. Assumes nothing.
-use Prim.Native.Nat.{ℕ, suc, _+_, _≤_, _<_}
+use Prim.Native.Nat.{ℕ, _+_, _≤_, _<_}
 use mathlib.Core.Path.{_≡_, refl, sym, _∙_, ap}
-use mathlib.Core.Bool.{Bool, true, false, not, _&&_}
+use mathlib.Core.Bool.{true, not, _&&_}
 use mathlib.Core.Option.{none, some}
 use mathlib.Core.List.{List, [], _∷_}
 use native.Mathlib.Omega.{arith}
@@ -9,7 +9,7 @@ use native.Mathlib.Decide.{ℕ-discrete}
 use lib.ListN.{set, length-set}
 use lib.Seq.{getD-set-other, getD-set-same}
 use lib.Dec.{eqb}
-use borrow.Author.Tests.{eq-eqb, ne-eqb, le-leb}
+use borrow.Author.Tests.{ne-eqb, le-leb}
 use Rattle.scope.proofs.Bools.{and-l, and-r}
 use Rattle.scope.specs.Numbers.{rootLink}
 use Rattle.scope.specs.Table.{word, rootWord, countWord, changeWord, zeroWord, slotAt, withSlot, linkAt, written}
@@ -17,7 +17,6 @@ use Rattle.scope.specs.Fit.{stateOk, piecesOk, linkOk, fitSlot, headerOk}
 use Rattle.scope.specs.Tree.{Batch, Tree, leaf, node, size, times, same}
 use Rattle.scope.specs.Sound.{Spells}
 use Rattle.scope.specs.Post.{recordOk, leafSlot, hung}
-use Rattle.scope.specs.declared.slot.Slot.{Slot}
 use Rattle.scope.specs.declared.side.Side.{Side}
 use Rattle.scope.specs.declared.side.Link.{Link}
 use Rattle.words.specs.Ready.{Sized}
@@ -30,7 +29,7 @@ use Rattle.tree.specs.Place.{subtree}
 use Rattle.tree.proofs.Steps.{on-top}
 use Rattle.tree.proofs.Sides.{times-mk}
 use Rattle.bridge.specs.Edit.{sonOn, Edit, edit, writes, edited, rooted}
-use Rattle.bridge.specs.Below.{Hangs, relinked, Below}
+use Rattle.bridge.specs.Below.{Hangs, Below}
 use Rattle.bridge.specs.Leads.{linkAlong}
 use Rattle.bridge.specs.Seek.{seek, route, endOf}
 use Rattle.bridge.specs.Settled.{Settled, Spelled}
@@ -42,7 +41,7 @@ use Rattle.bridge.proofs.Along.{hangs-along, below-along}
 use Rattle.bridge.proofs.Ways.{same-none, leads-holder}
 use Rattle.bridge.proofs.Keyed.{end-there, end-plugged}
 use Rattle.bridge.proofs.Grown.{end-missing, grown, grown-times, grown-size, grown-ordered}
-use Rattle.bridge.proofs.Fires.{hangs-root, new-header}
+use Rattle.bridge.proofs.Fires.{new-header}
 use Rattle.bridge.proofs.Settles.{settles}
 
 -- a new leaf is fit

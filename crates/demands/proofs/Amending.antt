@@ -1,7 +1,7 @@
 -- Demand 2: on a sound table amend answers and leaves what it does on the ledger. Assumes nothing.
-use Prim.Native.Nat.{ℕ, _+_, _≤_, _<_}
+use Prim.Native.Nat.{ℕ, _+_}
 use mathlib.Core.Path.{_≡_, refl, sym, _∙_, ap}
-use mathlib.Core.Bool.{Bool, true, false, cond}
+use mathlib.Core.Bool.{true}
 use mathlib.Core.Option.{Option, none, some}
 use mathlib.Core.List.{List}
 use native.Mathlib.Omega.{arith}
@@ -13,11 +13,10 @@ use Rattle.scope.specs.Numbers.{rootLink, lastChange}
 use Rattle.scope.specs.Table.{word, changeWord, slotAt, withSlot}
 use Rattle.scope.specs.Fit.{headerOk}
 use Rattle.scope.specs.Tree.{Batch, Tree}
-use Rattle.scope.specs.Sound.{Sound, treeIn}
-use Rattle.scope.specs.Answers.{Done, refused, gate}
-use Rattle.scope.specs.Walk.{walkOf}
+use Rattle.scope.specs.Sound.{treeIn}
+use Rattle.scope.specs.Answers.{refused, gate}
 use Rattle.scope.specs.Post.{recordOk}
-use Rattle.scope.specs.Amend.{withPieces, amendingAt, amending, amendPlan, amended, amendOf}
+use Rattle.scope.specs.Amend.{withPieces, amendingAt, amendPlan, amended, amendOf}
 use Rattle.scope.specs.declared.answer.Refusal.{Refusal}
 use Rattle.scope.specs.declared.answer.Refusal.the-variants.{OutOfRange, KeyAbsent, LastChange}
 use Rattle.scope.specs.declared.answer.Gate.the-variants.{Shut, Open}
@@ -30,12 +29,12 @@ use Rattle.bridge.specs.Seek.{seek, route, visits, sought}
 use Rattle.bridge.specs.Settled.{Spelled}
 use Rattle.bridge.proofs.Keyed.{amendedTree}
 use Rattle.bridge.proofs.Settles.{amended-whole}
-use Rattle.ledger.specs.Entries.{Entry, lookup, replace}
-use Rattle.ledger.specs.Ledger.{Ledger, Entered, entry, kept, entered, onEntry, amendIn}
-use Rattle.demands.specs.Ledgers.{entriesOf, ledgerOf, noSlot, AsLedger}
+use Rattle.ledger.specs.Entries.{replace}
+use Rattle.ledger.specs.Ledger.{Ledger, entry, kept, entered, onEntry, amendIn}
+use Rattle.demands.specs.Ledgers.{entriesOf, ledgerOf, AsLedger}
 use Rattle.demands.proofs.Open.{gate-opens}
 use Rattle.demands.proofs.Walks.{walk-tree}
-use Rattle.demands.proofs.Entries.{mapEntry, seek-lookup, amended-entries}
+use Rattle.demands.proofs.Entries.{mapEntry, amended-entries}
 use Rattle.demands.proofs.Answers.{gate-range, lookup-is}
 
 -- a refusal leaves both as they were

@@ -1,9 +1,9 @@
 -- Demand 2: on a sound table find, rank and total answer as the ledger does. Assumes nothing.
-use Prim.Native.Nat.{ℕ, _+_, _-_, _≤_}
+use Prim.Native.Nat.{ℕ}
 use mathlib.Core.Path.{_≡_, refl, sym, _∙_, ap}
 use mathlib.Core.Bool.{Bool, true, false, cond, not}
 use mathlib.Core.Option.{Option, none, some}
-use mathlib.Core.List.{List, map}
+use mathlib.Core.List.{List}
 use native.Mathlib.Omega.{arith}
 use lib.ListN.{length, length-map}
 use lib.Dec.{eqb, ltb, leb}
@@ -12,25 +12,22 @@ use Rattle.scope.specs.Numbers.{rootLink}
 use Rattle.scope.specs.Table.{word, rootWord, changeWord, slotAt}
 use Rattle.scope.specs.Fit.{headerOk}
 use Rattle.scope.specs.Tree.{Batch, Tree, leaf, node, inOrder}
-use Rattle.scope.specs.Sound.{Spells, batchAt, soundTable, treeIn}
-use Rattle.scope.specs.Answers.{refusal, accepted, gate, answering}
-use Rattle.scope.specs.Walk.{walkOf}
+use Rattle.scope.specs.Sound.{Spells, batchAt, treeIn}
+use Rattle.scope.specs.Answers.{refusal, accepted, gate}
 use Rattle.scope.specs.Find.{foundIn, findAnswer}
-use Rattle.scope.specs.Sums.{soundGate, slotsInOrder, pick, rankOf, ranked, rankAnswer, totalAnswer}
-use Rattle.scope.specs.declared.answer.Answer.{Answer}
+use Rattle.scope.specs.Sums.{soundGate, pick, rankOf, ranked, rankAnswer, totalAnswer}
 use Rattle.scope.specs.declared.answer.Refusal.the-variants.{OutOfRange, KeyAbsent}
 use Rattle.scope.specs.declared.answer.Gate.the-variants.{Shut, Open}
 use Rattle.scope.specs.declared.side.Link.{Link}
 use Rattle.words.specs.Ready.{Sized}
 use Rattle.sound.specs.Whole.{Whole}
-use Rattle.sound.proofs.Exact.{sound-test}
 use Rattle.sound.proofs.Spell.{tree-in}
 use Rattle.bridge.specs.Leads.{linkAlong}
 use Rattle.bridge.specs.Seek.{seek, route, visits, sought}
 use Rattle.bridge.proofs.Calls.{sized-slots}
-use Rattle.ledger.specs.Entries.{Entry, lookup}
-use Rattle.ledger.specs.Ledger.{Ledger, foundEntry, findIn, rankIn, totalIn}
-use Rattle.demands.specs.Ledgers.{entryOf, entriesOf, ledgerOf, noVisits, noSlot}
+use Rattle.ledger.specs.Entries.{lookup}
+use Rattle.ledger.specs.Ledger.{foundEntry, findIn, rankIn, totalIn}
+use Rattle.demands.specs.Ledgers.{entryOf, ledgerOf, noVisits, noSlot}
 use Rattle.demands.proofs.Open.{gate-opens, sound-opens}
 use Rattle.demands.proofs.Walks.{walk-tree}
 use Rattle.demands.proofs.Entries.{mapEntry, seek-lookup, total-sum}

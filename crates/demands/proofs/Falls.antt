@@ -1,27 +1,24 @@
 -- Demand 3: the worth falls at every accepted fire; no list of attempts has more accepted ones. Assumes nothing.
 use Prim.Native.Nat.{ℕ, _+_, _≤_, _<_}
-use mathlib.Core.Path.{_≡_, refl, sym, _∙_, ap}
-use mathlib.Core.Bool.{Bool, true, false, cond}
+use mathlib.Core.Path.{_≡_, sym, _∙_, ap}
+use mathlib.Core.Bool.{cond}
 use mathlib.Core.List.{List, [], _∷_}
 use native.Mathlib.Omega.{arith}
 use lib.Dec.{eqb}
 use borrow.Author.Tests.{ne-eqb}
 use Rattle.scope.specs.Numbers.{mostHeight}
-use Rattle.scope.specs.Answers.{Done, codeOf, refused}
-use Rattle.scope.specs.Tree.{Tree}
-use Rattle.scope.specs.Sound.{treeIn}
+use Rattle.scope.specs.Answers.{Done, codeOf}
 use Rattle.scope.specs.Worth.{worthOf, worthAnswer}
 use Rattle.scope.specs.Fire.{fireOf, fireAnswer, fireTable}
 use Rattle.scope.specs.Calls.{answerOf, tableOf, answers, after}
-use Rattle.scope.specs.declared.answer.Refusal.the-variants.{OutOfRange}
 use Rattle.sound.specs.Whole.{Whole}
 use Rattle.sound.proofs.Spell.{tree-in}
 use Rattle.tree.proofs.Fall.{worth-falls}
 use Rattle.tree.proofs.Quiet.{accepted-fires}
-use Rattle.bridge.specs.Fired.{Fired, FireDone, accepts, out-of-range, unmet}
+use Rattle.bridge.specs.Fired.{FireDone, accepts, out-of-range, unmet}
 use Rattle.bridge.proofs.Calls.{fire-done}
 use Rattle.demands.specs.Fires.{Trial, fires, acceptedIn}
-use Rattle.demands.proofs.Open.{some-code, Sounds, check-sounds, worth-whole}
+use Rattle.demands.proofs.Open.{some-code, worth-whole}
 
 -- the worth that the call tells of the words after an outcome, and 1 if it was accepted
 abbrev spent : Done → ℕ

@@ -4,9 +4,9 @@ use mathlib.Core.Path.{_≡_, refl, sym, _∙_, ap}
 use mathlib.Core.Bool.{true}
 use mathlib.Core.List.{List, [], map}
 use native.Mathlib.Omega.{arith}
-use lib.ListN.{length, replicate, length-replicate, getD-replicate}
+use lib.ListN.{length-replicate, getD-replicate}
 use Rattle.scope.specs.Table.{word, changeWord}
-use Rattle.scope.specs.Tree.{Tree, leaf, inOrder}
+use Rattle.scope.specs.Tree.{leaf, inOrder}
 use Rattle.scope.specs.Sound.{Spells, treeIn}
 use Rattle.scope.specs.Answers.{Done, accepted, gate}
 use Rattle.scope.specs.Find.{startOf}
@@ -16,9 +16,8 @@ use Rattle.words.specs.Ready.{Sized}
 use Rattle.sound.specs.Whole.{Whole}
 use Rattle.sound.proofs.Spell.{tree-in, only-tree}
 use Rattle.sound.proofs.Zeros.{zeros, zeros-hold}
-use Rattle.bridge.specs.Fired.{Fired, FireDone, accepts, out-of-range, unmet}
+use Rattle.bridge.specs.Fired.{FireDone, accepts, out-of-range, unmet}
 use Rattle.bridge.proofs.Calls.{fire-done}
-use Rattle.ledger.specs.Ledger.{Ledger}
 use Rattle.demands.proofs.Open.{gate-opens}
 use Rattle.demands.specs.Ledgers.{entriesOf, entryOf, ledgerOf}
 

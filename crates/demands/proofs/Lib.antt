@@ -3,6 +3,8 @@ pub mod Open
 pub mod Falls
 pub mod Walks
 pub mod Refusals
+pub mod FireRefusals
+pub mod Listed
 pub mod Entries
 pub mod Answers
 pub mod Amending

@@ -1,16 +1,14 @@
 -- What the calls that want a sound table answer on one. Assumes nothing.
 use Prim.Native.Nat.{ℕ}
-use mathlib.Core.Path.{_≡_, refl, sym, _∙_}
-use mathlib.Core.Bool.{Bool, true, false}
+use mathlib.Core.Path.{_≡_, refl}
+use mathlib.Core.Bool.{Bool, true}
 use mathlib.Core.List.{List}
 use native.Mathlib.Omega.{arith}
-use lib.ListN.{length}
 use Rattle.scope.specs.Table.{word, changeWord}
-use Rattle.scope.specs.Sound.{soundTable, treeIn}
+use Rattle.scope.specs.Sound.{soundTable}
 use Rattle.scope.specs.Answers.{accepted, gate, answering, codeOf}
 use Rattle.scope.specs.Sums.{soundGate, checkAnswer}
 use Rattle.scope.specs.Worth.{worthOf, worthAnswer}
-use Rattle.scope.specs.declared.answer.Answer.{Answer}
 use Rattle.scope.specs.declared.answer.Refusal.{Refusal}
 use Rattle.scope.specs.declared.answer.Refusal.the-variants.{WrongLength, OutOfRange, Damaged, KeyPresent, KeyAbsent, NoFreeSlot, LastChange, GuardFails, TooHigh, Unreadable}
 use Rattle.scope.specs.declared.answer.Gate.{Gate}

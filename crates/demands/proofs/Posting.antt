@@ -1,21 +1,20 @@
 -- Demand 2: on a sound table post answers and leaves what it does on the ledger. Assumes nothing.
 use Prim.Native.Nat.{ℕ, _+_, _≤_, _<_}
 use mathlib.Core.Path.{_≡_, refl, sym, _∙_, ap}
-use mathlib.Core.Bool.{Bool, true, false, cond, _&&_}
+use mathlib.Core.Bool.{true, cond}
 use mathlib.Core.Option.{Option, none, some}
 use mathlib.Core.List.{List}
 use native.Mathlib.Omega.{arith}
 use lib.ListN.{length}
-use lib.Dec.{ltb, eqb}
-use borrow.Author.Tests.{ne-eqb, ltb-true, ltb-false}
+use lib.Dec.{ltb}
+use borrow.Author.Tests.{ne-eqb, ltb-false}
 use Rattle.scope.proofs.Bools.{by-bool}
 use Rattle.scope.specs.Numbers.{rootLink, lastChange}
-use Rattle.scope.specs.Table.{word, countWord, changeWord, slotAt}
-use Rattle.scope.specs.Fit.{blankSlot, headerOk}
-use Rattle.scope.specs.Tree.{Batch, Tree, size, times}
+use Rattle.scope.specs.Table.{word, countWord, changeWord}
+use Rattle.scope.specs.Fit.{headerOk}
+use Rattle.scope.specs.Tree.{Batch, Tree, size}
 use Rattle.scope.specs.Sound.{treeIn}
-use Rattle.scope.specs.Answers.{Done, refused, gate}
-use Rattle.scope.specs.Walk.{walkOf}
+use Rattle.scope.specs.Answers.{gate}
 use Rattle.scope.specs.Post.{recordOk, freeSlot, hangAt, postingAt, postPlan, leafSlot, posted, postOf}
 use Rattle.scope.specs.declared.answer.Refusal.the-variants.{OutOfRange, KeyPresent, NoFreeSlot, LastChange}
 use Rattle.scope.specs.declared.answer.Gate.the-variants.{Shut, Open}
@@ -24,8 +23,6 @@ use Rattle.sound.specs.Whole.{Whole}
 use Rattle.sound.proofs.Spell.{tree-in}
 use Rattle.bridge.specs.Leads.{linkAlong}
 use Rattle.bridge.specs.Seek.{seek, route, visits, sought}
-use Rattle.bridge.specs.Settled.{Spelled}
-use Rattle.bridge.proofs.Grown.{grown}
 use Rattle.bridge.proofs.Free.{FreeIs, free, full, free-slot, unreached, room-left, no-room}
 use Rattle.bridge.proofs.Posts.{posted-whole, posted-sized, posted-change}
 use Rattle.ledger.specs.Entries.{Entry, insert}

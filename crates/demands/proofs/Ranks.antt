@@ -1,25 +1,22 @@
 -- Demand 2: the slot that rank answers holds the ledger's record of that rank. Assumes nothing.
-use Prim.Native.Nat.{ℕ, zero, suc, _+_, _-_, _≤_}
-use mathlib.Core.Path.{_≡_, refl, sym, _∙_, ap}
-use mathlib.Core.Bool.{Bool, true, false, cond}
-use mathlib.Core.Option.{Option, none, some}
+use Prim.Native.Nat.{ℕ, zero, suc, _-_, _≤_}
+use mathlib.Core.Path.{_≡_, sym, _∙_, ap}
+use mathlib.Core.Option.{some}
 use mathlib.Core.List.{List, [], _∷_, _++_, map}
 use native.Mathlib.Omega.{arith}
-use native.Mathlib.Decide.{ℕ-discrete}
 use lib.ListN.{length, getD, length-map}
-use lib.Dec.{leb, eqb}
-use borrow.Author.Tests.{eq-eqb, ne-eqb, leb-true}
+use lib.Dec.{leb}
+use borrow.Author.Tests.{ne-eqb, leb-true}
 use Rattle.scope.proofs.Bools.{by-bool}
 use Rattle.scope.specs.Table.{word, rootWord, slotAt}
 use Rattle.scope.specs.Tree.{Batch, Tree, leaf, node, inOrder}
 use Rattle.scope.specs.Sound.{Spells, batchAt, treeIn}
-use Rattle.scope.specs.Sums.{slotsInOrder, pick, rankOf}
-use Rattle.scope.specs.declared.outcome.Rank.{Rank}
-use Rattle.scope.specs.declared.outcome.Rank.the-variants.{At, Past}
+use Rattle.scope.specs.Sums.{pick, rankOf}
+use Rattle.scope.specs.declared.outcome.Rank.the-variants.{At}
 use Rattle.sound.specs.Whole.{Whole}
 use Rattle.sound.proofs.Spell.{tree-in}
-use Rattle.ledger.specs.Entries.{Entry, nth}
-use Rattle.demands.specs.Ledgers.{entryOf, entriesOf, ledgerOf}
+use Rattle.ledger.specs.Entries.{nth}
+use Rattle.demands.specs.Ledgers.{entryOf, ledgerOf}
 
 -- every record of a list stands in its slot
 abbrev Stand : List ℕ → List Batch → Type 0

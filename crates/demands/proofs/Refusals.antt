@@ -1,42 +1,34 @@
--- Demand 1: any call, on any words and arguments, is accepted, or refused with a listed code and nothing written. Assumes nothing.
-use Prim.Native.Nat.{ℕ, zero, suc, _+_, _-_}
-use mathlib.Core.Path.{_≡_, refl, sym, ap}
+-- Demand 1: ten of the calls, whatever the words and arguments: accepted, or refused with a listed code. Assumes nothing.
+use Prim.Native.Nat.{ℕ, _-_}
+use mathlib.Core.Path.{_≡_, refl}
 use mathlib.Core.Bool.{Bool, true, false, cond, not, _&&_}
 use mathlib.Core.List.{List, [], _∷_}
 use lib.ListN.{length}
-use lib.Dec.{eqb, ltb, leb}
+use lib.Dec.{eqb, ltb}
 use Rattle.scope.proofs.Bools.{neither}
-use Rattle.scope.specs.Numbers.{other, mostHeight, lastChange, ruleOf, linkOf}
-use Rattle.scope.specs.Table.{word, countWord, changeWord, slotsIn, slotAt, linkAt, son}
-use Rattle.scope.specs.Fit.{blankSlot, fitSlot, headerOk}
-use Rattle.scope.specs.Answers.{Done, codeOf, accepted, refusal, refused, gate, answering, admit, onSlots}
+use Rattle.scope.specs.Numbers.{lastChange}
+use Rattle.scope.specs.Table.{word, countWord, changeWord, slotsIn, slotAt, son}
+use Rattle.scope.specs.Fit.{blankSlot, headerOk}
+use Rattle.scope.specs.Answers.{Done, codeOf, refused, gate, answering, admit, onSlots}
 use Rattle.scope.specs.Walk.{walkOf}
 use Rattle.scope.specs.Find.{started, startOf, foundIn, findAnswer}
 use Rattle.scope.specs.Post.{recordOk, freeSlot, posting, hangAt, postingAt, postPlan, posted, postOf, leafSlot}
 use Rattle.scope.specs.Amend.{amending, amendingAt, amendPlan, amended, amendOf}
 use Rattle.scope.specs.Drop.{dropping, leftmostFrom, ifMay, replacing, dropAt, droppingAt, dropPlan, dropped, dropOf}
 use Rattle.scope.specs.Sound.{soundTable, treeIn}
-use Rattle.scope.specs.Sums.{soundGate, checkAnswer, rankOf, ranked, rankAnswer, totalOf, totalAnswer}
-use Rattle.scope.specs.Worth.{worthOf, worthAnswer}
-use Rattle.scope.specs.Rules.{guardAt, highestAt}
-use Rattle.scope.specs.Fire.{hasThird, takeOf, onTaken, judged, aimW, aimU, aimV, aim, aimed, onRule, onLink, firingIn, firePlan, fired, fireOf}
+use Rattle.scope.specs.Sums.{soundGate, rankOf, ranked, rankAnswer}
 use Rattle.scope.specs.Tidy.{tidying, tidyFrom, tidied, tidyOf}
-use Rattle.scope.specs.Calls.{Call, start, check, find, post, amend, drop, rank, total, worth, fire, tidy, answerOf, tableOf}
+use Rattle.scope.specs.Calls.{start, find, post, amend, drop, rank, tidy}
 use Rattle.scope.specs.declared.answer.Answer.{Answer}
 use Rattle.scope.specs.declared.answer.Refusal.{Refusal}
-use Rattle.scope.specs.declared.answer.Refusal.the-variants.{WrongLength, OutOfRange, Damaged, KeyPresent, KeyAbsent, NoFreeSlot, LastChange, GuardFails, TooHigh}
+use Rattle.scope.specs.declared.answer.Refusal.the-variants.{WrongLength, OutOfRange, Damaged, KeyPresent, KeyAbsent, NoFreeSlot, LastChange}
 use Rattle.scope.specs.declared.answer.Gate.{Gate}
 use Rattle.scope.specs.declared.answer.Gate.the-variants.{Shut, Open}
 use Rattle.scope.specs.declared.slot.Slot.{Slot}
 use Rattle.scope.specs.declared.slots.SlotsIs.{SlotsIs}
 use Rattle.scope.specs.declared.slots.SlotsIs.the-variants.{Within, Outside}
-use Rattle.scope.specs.declared.rule.Rule.{Rule}
-use Rattle.scope.specs.declared.rule.RuleIs.{RuleIs}
-use Rattle.scope.specs.declared.rule.RuleIs.the-variants as rule-is
 use Rattle.scope.specs.declared.side.Side.the-variants.{Right}
 use Rattle.scope.specs.declared.side.Link.{Link}
-use Rattle.scope.specs.declared.side.LinkIs.{LinkIs}
-use Rattle.scope.specs.declared.side.LinkIs.the-variants as link-is
 use Rattle.scope.specs.declared.outcome.Walk.{Walk}
 use Rattle.scope.specs.declared.outcome.Walk.the-variants.{Hit, Miss, Damage}
 use Rattle.scope.specs.declared.outcome.Leftmost.{Leftmost}
@@ -49,15 +41,10 @@ use Rattle.scope.specs.declared.outcome.Dropping.{Dropping}
 use Rattle.scope.specs.declared.outcome.Dropping.the-variants as dropping-is
 use Rattle.scope.specs.declared.outcome.Rank.{Rank}
 use Rattle.scope.specs.declared.outcome.Rank.the-variants as ranks
-use Rattle.scope.specs.declared.outcome.Taken.{Taken}
-use Rattle.scope.specs.declared.outcome.Taken.the-variants.{Got, Not}
-use Rattle.scope.specs.declared.outcome.Nodes.{Nodes}
-use Rattle.scope.specs.declared.outcome.Firing.{Firing}
-use Rattle.scope.specs.declared.outcome.Firing.the-variants as firing
 use Rattle.demands.specs.Listed.{codes, among, Answered, accepts, refuses}
 
 -- what holds of both ends of a test holds of what it comes to
-either : {A : Type 0} (P : A → Type 0) (b : Bool) {x y : A} → P x → P y → P (cond b x y)
+pub either : {A : Type 0} (P : A → Type 0) (b : Bool) {x y : A} → P x → P y → P (cond b x y)
 either P true p q = p
 either P false p q = q
 
@@ -97,17 +84,17 @@ module _ (t listed : List ℕ) (good : Bool) (whole : ℕ → Bool) (F : Gate �
       on (Within s) = tests (s .count) good (whole (s .count)) refl refl
 
 module _ (t : List ℕ) where
-  start-answered : Answered (codes start) t (startOf t)
+  pub start-answered : Answered (codes start) t (startOf t)
   unfolding startOf
   start-answered =
       by-gate t (codes start) true (λ c. true) (started t) (λ why. refl) refl (λ e. neither refl e) (λ c e. neither refl e) (λ c. accepts refl)
 
   -- calls that want a sound table and have no argument to test
-  whole-answered : (f : ℕ → Answer) → ((c : ℕ) → f c .code ≡ 0) → Answered (1 ∷ 3 ∷ []) t (only t (answering (soundGate t true) f))
+  pub whole-answered : (f : ℕ → Answer) → ((c : ℕ) → f c .code ≡ 0) → Answered (1 ∷ 3 ∷ []) t (only t (answering (soundGate t true) f))
   whole-answered f h =
       by-gate t (1 ∷ 3 ∷ []) true (λ c. soundTable t c) (λ g. only t (answering g f)) (λ why. refl) refl (λ e. neither refl e) (λ c e. refl) (λ c. accepts (h c))
 
-  tidy-answered : (budget : ℕ) → Answered (codes (tidy budget)) t (tidyOf t budget)
+  pub tidy-answered : (budget : ℕ) → Answered (codes (tidy budget)) t (tidyOf t budget)
   unfolding tidyOf tidied
   tidy-answered budget =
       by-gate t (codes (tidy budget)) true (λ c. soundTable t c) (λ g. tidying t g (λ c. tidied t c (tidyFrom budget c t 0)))
@@ -119,7 +106,7 @@ module _ (t : List ℕ) where
   ranked-answered r (ranks.At slot) = accepts refl
   ranked-answered r (ranks.Past n) = refuses KeyAbsent refl
 
-  rank-answered : (r : ℕ) → Answered (codes (rank r)) t (only t (rankAnswer t r))
+  pub rank-answered : (r : ℕ) → Answered (codes (rank r)) t (only t (rankAnswer t r))
   unfolding rankAnswer
   rank-answered r =
       by-gate t (codes (rank r)) (not (eqb r 0)) (λ c. soundTable t c) (λ g. only t (answering g (λ c. ranked t (rankOf r (treeIn t c)))))
@@ -131,7 +118,7 @@ module _ (t : List ℕ) where
   found-answered key (Miss link seen) = refuses KeyAbsent refl
   found-answered key Damage = refuses Damaged refl
 
-  find-answered : (key : ℕ) → Answered (codes (find key)) t (only t (findAnswer t key))
+  pub find-answered : (key : ℕ) → Answered (codes (find key)) t (only t (findAnswer t key))
   unfolding findAnswer
   find-answered key =
       by-gate t (codes (find key)) (not (eqb key 0)) (λ c. headerOk c t) (λ g. only t (answering g (λ c. foundIn t (walkOf t c key))))
@@ -158,7 +145,7 @@ module _ (t : List ℕ) where
     posts new x (refuse why e) = refuses why e
     posts new x hang = accepts refl
 
-    post-answered : Answered (codes (post key pieces state)) t (postOf t key pieces state)
+    pub post-answered : Answered (codes (post key pieces state)) t (postOf t key pieces state)
     unfolding postOf postPlan posted
     post-answered =
         by-gate t (codes (post key pieces state)) (recordOk key pieces state) (λ c. headerOk c t)
@@ -177,7 +164,7 @@ module _ (t : List ℕ) where
     amends x (not-amend why e) = refuses why e
     amends x change = accepts refl
 
-    amend-answered : Answered (codes (amend key pieces state)) t (amendOf t key pieces state)
+    pub amend-answered : Answered (codes (amend key pieces state)) t (amendOf t key pieces state)
     unfolding amendOf amendPlan amended
     amend-answered =
         by-gate t (codes (amend key pieces state)) (recordOk key pieces state) (λ c. headerOk c t)
@@ -211,112 +198,9 @@ module _ (t : List ℕ) where
     drops x lift = accepts refl
     drops x replace = accepts refl
 
-    drop-answered : Answered (codes (drop key)) t (dropOf t key)
+    pub drop-answered : Answered (codes (drop key)) t (dropOf t key)
     unfolding dropOf dropPlan dropped
     drop-answered =
         by-gate t (codes (drop key)) (not (eqb key 0)) (λ c. headerOk c t)
         (λ g. dropped t (dropping g (λ c. droppingAt t c (walkOf t c key))))
         (λ why. refl) refl (λ e. refl) (λ c e. refl) (λ c. drops _ (dropping-may c (walkOf t c key)))
-
--- fire: its slots, its guard and its limit
-data Takes : Taken → Type 0 where
-  got : {s : Slot} → Takes (Got s)
-  missing : Takes (Not GuardFails)
-  unfit : Takes (Not Damaged)
-
-data Fires (listed : List ℕ) : Firing → Type 0 where
-  not-fire : (why : Refusal) → among (codeOf why) listed ≡ true → Fires listed (firing.Refuse why)
-  fires : {r : Rule} {n : Nodes} → Fires listed (firing.Fire r n)
-
-module _ (t : List ℕ) (rule holder side : ℕ) where
-  abbrev listed : List ℕ
-  listed = codes (fire rule holder side)
-
-  takes : (c k a b e : ℕ) → Takes (takeOf t c k a b e)
-  unfolding takeOf
-  takes c k a b e =
-      either Takes (eqb k 0) missing
-      (either Takes (fitSlot c (slotAt t k) && not (eqb k a) && not (eqb k b) && not (eqb k e)) got unfit)
-
-  taken : (x : Taken) (f : Slot → Firing) → Takes x → ((s : Slot) → Fires listed (f s)) → Fires listed (onTaken x f)
-  taken x f (got {s = s}) h = h s
-  taken x f missing h = not-fire GuardFails refl
-  taken x f unfit h = not-fire Damaged refl
-
-  judges : (r : Rule) (n : Nodes) → Fires listed (judged r n)
-  unfolding judged
-  judges r n =
-      either (Fires listed) (guardAt r n) (either (Fires listed) (leb (highestAt r n) mostHeight) fires (not-fire TooHigh refl)) (not-fire GuardFails refl)
-
-  module _ (c : ℕ) (r : Rule) (link : Link) where
-    w-may : (v : ℕ) (sv : Slot) (u : ℕ) (su : Slot) → Fires listed (aimW t c r link v sv u su)
-    unfolding aimW
-    w-may v sv u su = taken (takeOf t c (son su (other (r .side))) (link .holder) v u) _ (takes c _ _ _ _) (λ sw. judges r _)
-
-    u-may : (v : ℕ) (sv : Slot) → Fires listed (aimU t c r link v sv)
-    unfolding aimU
-    u-may v sv =
-        taken (takeOf t c (son sv (r .side)) (link .holder) v 0) _ (takes c _ _ _ _)
-        (λ su. either (Fires listed) (hasThird (r .kind)) (w-may v sv (son sv (r .side)) su) (judges r _))
-
-    v-may : Fires listed (aimV t c r link)
-    unfolding aimV
-    v-may = taken (takeOf t c (word t (linkAt link)) (link .holder) 0 0) _ (takes c _ _ _ _) (λ sv. u-may (word t (linkAt link)) sv)
-
-    aimed-may : Fires listed (aimed t c r link)
-    unfolding aimed aim
-    aimed-may =
-        either (Fires listed) (headerOk c t)
-        (either (Fires listed) (eqb (link .holder) 0) v-may
-        (either (Fires listed) (eqb (slotAt t (link .holder) .state) 0) (not-fire GuardFails refl)
-        (either (Fires listed) (fitSlot c (slotAt t (link .holder))) v-may (not-fire Damaged refl))))
-        (not-fire Damaged refl)
-
-  named : (c : ℕ) (a : RuleIs) (b : LinkIs) → Fires listed (onRule a (λ r. onLink b (λ l. aimed t c r l)))
-  named c rule-is.Unknown b = not-fire OutOfRange refl
-  named c (rule-is.Known r) link-is.Unknown = not-fire OutOfRange refl
-  named c (rule-is.Known r) (link-is.Known l) = aimed-may c r l
-
-  planned : (s : SlotsIs) → Fires listed (firingIn s (λ c. onRule (ruleOf rule) (λ r. onLink (linkOf c holder side) (λ l. aimed t c r l))))
-  planned Outside = not-fire WrongLength refl
-  planned (Within s) = named (s .count) (ruleOf rule) (linkOf (s .count) holder side)
-
-  ends : (f : Firing) → Fires listed f → Answered listed t (fired t f)
-  unfolding fired
-  ends f (not-fire why e) = refuses why e
-  ends f fires = accepts refl
-
-  fire-answered : Answered listed t (fireOf t rule holder side)
-  unfolding fireOf firePlan
-  fire-answered = ends _ (planned (slotsIn (length t)))
-
--- DEMAND 1: every call, for any words and arguments
-pub answered : (x : Call) (t : List ℕ) → Answered (codes x) t (record { answer = answerOf x t; words = tableOf x t })
-unfolding answerOf tableOf checkAnswer totalAnswer worthAnswer
-answered start t = start-answered t
-answered check t = whole-answered t (λ c. accepted (word t changeWord) 0 0 0) (λ c. refl)
-answered (find key) t = find-answered t key
-answered (post key pieces state) t = post-answered t key pieces state
-answered (amend key pieces state) t = amend-answered t key pieces state
-answered (drop key) t = drop-answered t key
-answered (rank r) t = rank-answered t r
-answered (total K) t = whole-answered t (λ c. accepted (word t changeWord) (totalOf K (treeIn t c)) 0 0) (λ c. refl)
-answered worth t = whole-answered t (λ c. accepted (word t changeWord) (worthOf (treeIn t c)) 0 0) (λ c. refl)
-answered (fire rule holder side) t = fire-answered t rule holder side
-answered (tidy budget) t = tidy-answered t budget
-
--- so a code that is not 0 comes with four zeros, is listed, and leaves every word
-pub record Refused (x : Call) (t : List ℕ) : Type 0 where
-  pub why : Refusal
-  pub answer : answerOf x t ≡ refusal why
-  pub words : tableOf x t ≡ t
-  pub listed : among (codeOf why) (codes x) ≡ true
-
-says : (x : Call) (t : List ℕ) (d : Done) → d ≡ record { answer = answerOf x t; words = tableOf x t } → Answered (codes x) t d
-    → (d .answer .code ≡ 0 → ⊥) → Refused x t
-says x t d e (accepts z) ne = absurd (ne z)
-says x t d e (refuses why l) ne =
-    record { why = why; answer = ap (λ (y : Done). y .answer) (sym e); words = ap (λ (y : Done). y .words) (sym e); listed = l }
-
-pub refused-is : (x : Call) (t : List ℕ) → (answerOf x t .code ≡ 0 → ⊥) → Refused x t
-refused-is x t = says x t (record { answer = answerOf x t; words = tableOf x t }) refl (answered x t)

@@ -1,6 +1,6 @@
 -- Demand 3: where no guard holds, every walk ends within 16 visits. Assumes nothing.
-use Prim.Native.Nat.{ℕ, _+_, _≤_}
-use mathlib.Core.Path.{_≡_, refl, sym, _∙_, ap}
+use Prim.Native.Nat.{ℕ, _≤_}
+use mathlib.Core.Path.{_≡_, refl, _∙_, ap}
 use mathlib.Core.Bool.{true, not}
 use mathlib.Core.Option.{Option, none, some}
 use mathlib.Core.List.{List}
@@ -11,20 +11,18 @@ use Rattle.scope.specs.Table.{word, rootWord, linkAt}
 use Rattle.scope.specs.Fit.{headerOk}
 use Rattle.scope.specs.Tree.{Batch, Tree, size, trueHeight}
 use Rattle.scope.specs.Answers.{answering, gate}
-use Rattle.scope.specs.Walk.{walkFrom, walkOf}
+use Rattle.scope.specs.Walk.{walkOf}
 use Rattle.scope.specs.Find.{foundIn, findAnswer}
 use Rattle.scope.specs.Tidy.{quiet}
 use Rattle.scope.specs.declared.answer.Gate.{Gate}
 use Rattle.scope.specs.declared.answer.Gate.the-variants.{Shut, Open}
 use Rattle.scope.specs.declared.side.Link.{Link}
 use Rattle.scope.specs.declared.outcome.Walk.{Walk}
-use Rattle.scope.specs.declared.outcome.Walk.the-variants.{Hit, Miss, Damage}
 use Rattle.words.proofs.Laws.{header-count, gate-passed}
 use Rattle.sound.specs.Whole.{Whole}
 use Rattle.tree.proofs.Height.{height-size, quiet-height}
 use Rattle.bridge.specs.Leads.{linkAlong}
 use Rattle.bridge.specs.Seek.{seek, route, visits, sought}
-use Rattle.bridge.proofs.Fires.{hangs-root}
 use Rattle.bridge.proofs.Seeks.{walk-is, visits-high}
 use Rattle.bridge.proofs.Quiets.{relaxed, quiet-tree}
 use Rattle.demands.specs.Short.{Short, hit, miss}
