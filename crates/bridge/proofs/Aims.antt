@@ -1,8 +1,8 @@
 -- At a link: a firing on words is accepted exactly if it is on the tree that hangs there, and makes of it the same. Assumes nothing.
 use Prim.Native.Nat.{ℕ, _≤_}
 use mathlib.Core.Path.{_≡_, refl, sym, _∙_, ap}
-use mathlib.Core.Bool.{true, false, _&&_}
-use mathlib.Core.Option.{Option, none, some}
+use mathlib.Core.Bool.{true, false}
+use mathlib.Core.Option.{Option, none}
 use mathlib.Core.List.{List}
 use native.Mathlib.Omega.{arith}
 use lib.Dec.{leb}
@@ -25,12 +25,12 @@ use Rattle.scope.specs.declared.slot.Slot.{Slot}
 use Rattle.scope.specs.declared.outcome.Nodes.{Nodes}
 use Rattle.scope.specs.declared.outcome.Taken.the-variants.{Got, Not}
 use Rattle.scope.specs.declared.outcome.Firing.{Firing}
-use Rattle.scope.specs.declared.outcome.Firing.the-variants.{Refuse, Fire}
+use Rattle.scope.specs.declared.outcome.Firing.the-variants.{Refuse}
 use Rattle.tree.specs.Rewrite.{mk, ruleOn, when, within, rewriteTop, propagated, rotated, doubled}
 use Rattle.tree.proofs.Steps.{by-side, top-is}
 use Rattle.tree.proofs.Sides.{times-mk}
 use Rattle.bridge.specs.Below.{Hangs, Below}
-use Rattle.bridge.specs.Alike.{Unmet, guard-fails, too-high, Alike}
+use Rattle.bridge.specs.Alike.{guard-fails, too-high, Alike}
 use Rattle.bridge.proofs.Looks.{Looks, look}
 use Rattle.bridge.proofs.Outside.{same-one, StandsIn}
 use Rattle.bridge.proofs.Turns.{look-v, look-u, v-in, u-in, x-y, not-holder, both, propagate-below, rotate-below}

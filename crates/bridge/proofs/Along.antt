@@ -1,11 +1,10 @@
 -- At the end of any way: a firing on words is that on the tree, accepted on the one exactly if on the other. Assumes nothing.
 use Prim.Native.Nat.{ℕ, _+_, _≤_}
 use mathlib.Core.Path.{_≡_, refl, sym, _∙_, ap}
-use mathlib.Core.Bool.{Bool, true, false, _||_, not}
+use mathlib.Core.Bool.{true, false, _||_}
 use mathlib.Core.Option.{Option, none, some}
 use mathlib.Core.List.{List, [], _∷_}
 use native.Mathlib.Omega.{arith}
-use native.Mathlib.Decide.{ℕ-discrete}
 use lib.Dec.{eqb, leb}
 use borrow.Author.Tests.{eq-eqb, ne-eqb, leb-true, eqb-true}
 use Rattle.scope.proofs.Bools.{and-l, and-r, by-bool, neither}
@@ -23,7 +22,7 @@ use Rattle.scope.specs.declared.outcome.Firing.{Firing}
 use Rattle.scope.specs.declared.outcome.Firing.the-variants.{Refuse, Fire}
 use Rattle.words.proofs.Laws.{fit-son, fits}
 use Rattle.sound.proofs.Frame.{frame}
-use Rattle.tree.specs.Rewrite.{mk, hung, acceptAt, rewriteAt, within}
+use Rattle.tree.specs.Rewrite.{mk, hung, acceptAt, rewriteAt}
 use Rattle.tree.specs.Place.{subtree, plug}
 use Rattle.tree.proofs.Steps.{no-tree, on-top, top-is}
 use Rattle.tree.proofs.Sides.{times-mk}

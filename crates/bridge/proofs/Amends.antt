@@ -1,37 +1,24 @@
 -- Other pieces and another state in a slot of a sound table: it is sound, and spells the amended tree. Assumes nothing.
-use Prim.Native.Nat.{ℕ, _+_, _≤_, _<_}
-use mathlib.Core.Path.{_≡_, refl, sym, _∙_, ap}
-use mathlib.Core.Bool.{Bool, true, false, not, _&&_}
-use mathlib.Core.Option.{none, some}
+use Prim.Native.Nat.{ℕ, _+_, _≤_}
+use mathlib.Core.Path.{_≡_, refl, _∙_, ap}
+use mathlib.Core.Bool.{true, not, _&&_}
 use mathlib.Core.List.{List}
 use native.Mathlib.Omega.{arith}
-use lib.ListN.{set, length-set}
-use lib.Seq.{getD-set-other}
 use lib.Dec.{eqb}
-use borrow.Author.Tests.{ne-eqb}
 use Rattle.scope.proofs.Bools.{and-l, and-r}
-use Rattle.scope.specs.Numbers.{rootLink}
-use Rattle.scope.specs.Table.{word, rootWord, countWord, changeWord, zeroWord, slotAt, withSlot, linkAt}
+use Rattle.scope.specs.Table.{word, slotAt, withSlot, linkAt}
 use Rattle.scope.specs.Fit.{stateOk, piecesOk, linkOk, fitSlot}
 use Rattle.scope.specs.Tree.{Batch, Tree, node, times, same}
-use Rattle.scope.specs.Sound.{Spells, Sound, treeIn}
+use Rattle.scope.specs.Sound.{Spells}
 use Rattle.scope.specs.Post.{recordOk}
 use Rattle.scope.specs.Amend.{withPieces}
 use Rattle.scope.specs.declared.slot.Slot.{Slot}
 use Rattle.scope.specs.declared.side.Link.{Link}
-use Rattle.words.specs.Ready.{Sized}
-use Rattle.words.proofs.Laws.{fits}
-use Rattle.sound.specs.Whole.{Whole}
 use Rattle.sound.proofs.Frame.{frame}
-use Rattle.sound.proofs.Spell.{tree-in}
 use Rattle.bridge.specs.Below.{Hangs, Below}
-use Rattle.bridge.specs.Leads.{linkAlong}
-use Rattle.bridge.specs.Seek.{seek, route, endOf, atKey, amendTop}
+use Rattle.bridge.specs.Seek.{amendTop}
 use Rattle.bridge.proofs.Outside.{same-one, first-slot, steady, steady-root}
-use Rattle.bridge.proofs.Wrote.{slot-here, slot-there, slot-head, slot-sized, head-slots}
-use Rattle.bridge.proofs.Along.{hangs-along, below-along}
-use Rattle.bridge.proofs.Keyed.{end-there, end-plugged, end-found, amendedTree, amended-times, amended-size, amended-ordered}
-use Rattle.bridge.proofs.Fires.{hangs-root, new-header}
+use Rattle.bridge.proofs.Wrote.{slot-here, slot-there, slot-head, slot-sized}
 
 -- a fit slot is so with other pieces and another state in range
 pub fit-amended : (c : ℕ) (x : Slot) (key pieces state : ℕ) → fitSlot c x ≡ true → recordOk key pieces state ≡ true

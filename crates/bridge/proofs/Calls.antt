@@ -1,40 +1,38 @@
 -- The call fire on a sound table, by its raw numbers. Assumes nothing.
-use Prim.Native.Nat.{ℕ, _+_, _*_, _≤_, _<_, _/_, _%_}
-use mathlib.Core.Path.{_≡_, refl, sym, _∙_, ap}
-use mathlib.Core.Bool.{Bool, true, false, cond, not, _&&_}
+use Prim.Native.Nat.{ℕ, _≤_, _/_, _%_}
+use mathlib.Core.Path.{_≡_, refl}
+use mathlib.Core.Bool.{not, _&&_}
 use mathlib.Core.Option.{Option, none, some}
-use mathlib.Core.List.{List, [], _∷_}
+use mathlib.Core.List.{List, []}
 use native.Mathlib.Omega.{arith}
 use native.Mathlib.Decide.{decLe, ℕ-discrete}
 use lib.ListN.{length}
-use lib.Dec.{leb, ltb, eqb}
+use lib.Dec.{ltb, eqb}
 use borrow.Author.Tests.{eq-eqb, ne-eqb, le-leb, eqb-true, ltb-false}
 use Rattle.scope.proofs.Bools.{by-bool}
 use Rattle.scope.specs.Numbers.{rootLink, slotsOf, sideOf, linkOf, knownLink, ruleOf}
-use Rattle.scope.specs.Table.{word, rootWord, slotsIn, linkAt, written}
-use Rattle.scope.specs.Answers.{Done, refused}
-use Rattle.scope.specs.Tree.{Tree, times, same}
-use Rattle.scope.specs.Rules.{actionAt}
-use Rattle.scope.specs.Fire.{aim, aimed, onRule, onLink, firePlan, fired, fireOf}
+use Rattle.scope.specs.Table.{slotsIn}
+use Rattle.scope.specs.Answers.{refused}
+use Rattle.scope.specs.Tree.{Tree, times}
+use Rattle.scope.specs.Fire.{aimed, onRule, onLink, firePlan, fired, fireOf}
 use Rattle.scope.specs.declared.rule.Rule.{Rule}
 use Rattle.scope.specs.declared.rule.RuleIs.{RuleIs}
 use Rattle.scope.specs.declared.rule.RuleIs.the-variants as rule-is
 use Rattle.scope.specs.declared.side.Side.{Side}
-use Rattle.scope.specs.declared.side.Side.the-variants.{Left, Right}
+use Rattle.scope.specs.declared.side.Side.the-variants.{Left}
 use Rattle.scope.specs.declared.side.SideIs.{SideIs}
 use Rattle.scope.specs.declared.side.SideIs.the-variants as side-is
 use Rattle.scope.specs.declared.side.Link.{Link}
 use Rattle.scope.specs.declared.side.LinkIs.{LinkIs}
 use Rattle.scope.specs.declared.side.LinkIs.the-variants as link-is
 use Rattle.scope.specs.declared.slots.SlotsIs.the-variants.{Within}
-use Rattle.scope.specs.declared.answer.Refusal.the-variants.{OutOfRange, GuardFails}
 use Rattle.scope.specs.declared.outcome.Firing.{Firing}
 use Rattle.scope.specs.declared.outcome.Firing.the-variants.{Refuse, Fire}
 use Rattle.words.specs.Ready.{Sized}
 use Rattle.sound.specs.Whole.{Whole}
 use Rattle.tree.specs.Rewrite.{acceptAt}
 use Rattle.tree.specs.Place.{subtree}
-use Rattle.bridge.specs.Alike.{Unmet, guard-fails, Alike}
+use Rattle.bridge.specs.Alike.{guard-fails, Alike}
 use Rattle.bridge.specs.Leads.{linkAlong, Leads}
 use Rattle.bridge.specs.Fired.{Fired, FireEnds, at-way, no-way, FireDone, accepts, out-of-range, unmet}
 use Rattle.bridge.proofs.Ways.{same-none, leads, leads-holder}

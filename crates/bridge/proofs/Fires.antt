@@ -1,9 +1,9 @@
 -- On a sound table a firing on words is that firing on the tree, and the table is sound again. Assumes nothing.
-use Prim.Native.Nat.{ℕ, _+_, _≤_, _<_}
-use mathlib.Core.Path.{_≡_, refl, sym, _∙_, ap}
+use Prim.Native.Nat.{ℕ, _≤_}
+use mathlib.Core.Path.{_≡_, refl, sym, _∙_}
 use mathlib.Core.Bool.{true, _&&_}
 use mathlib.Core.Option.{Option, none, some}
-use mathlib.Core.List.{List, [], _∷_}
+use mathlib.Core.List.{List}
 use native.Mathlib.Omega.{arith}
 use lib.Dec.{leb, eqb}
 use borrow.Author.Tests.{le-leb, ne-eqb}
@@ -11,8 +11,8 @@ use Rattle.scope.proofs.Bools.{and-l, and-r}
 use Rattle.scope.specs.Numbers.{rootLink, mostHeight}
 use Rattle.scope.specs.Table.{word, rootWord, countWord, zeroWord, slotAt, linkAt}
 use Rattle.scope.specs.Fit.{headerOk, blankSlot}
-use Rattle.scope.specs.Tree.{Tree, times, size, inOrder}
-use Rattle.scope.specs.Sound.{Sound, treeIn}
+use Rattle.scope.specs.Tree.{Tree, times, inOrder}
+use Rattle.scope.specs.Sound.{Sound}
 use Rattle.scope.specs.Fire.{aim}
 use Rattle.scope.specs.declared.rule.Rule.{Rule}
 use Rattle.scope.specs.declared.side.Side.{Side}
@@ -21,19 +21,17 @@ use Rattle.scope.specs.declared.slot.Slot.{Slot}
 use Rattle.scope.specs.declared.answer.Refusal.the-variants.{GuardFails}
 use Rattle.scope.specs.declared.outcome.Firing.{Firing}
 use Rattle.scope.specs.declared.outcome.Firing.the-variants.{Refuse, Fire}
-use Rattle.words.specs.Ready.{Sized}
 use Rattle.words.proofs.Laws.{header-root, header-count}
 use Rattle.sound.specs.Whole.{Whole}
 use Rattle.sound.proofs.Frame.{none-at-0}
 use Rattle.sound.proofs.Ends.{once-all}
 use Rattle.sound.proofs.Spell.{tree-in}
 use Rattle.tree.specs.Rewrite.{acceptAt, within}
-use Rattle.tree.specs.Place.{subtree}
 use Rattle.tree.proofs.Keeps.{keeps, times-kept, size-kept}
 use Rattle.tree.proofs.Order.{ordered-kept}
 use Rattle.bridge.specs.Below.{Hangs, Below}
 use Rattle.bridge.specs.Alike.{Alike}
-use Rattle.bridge.specs.Leads.{linkAlong, Leads}
+use Rattle.bridge.specs.Leads.{Leads}
 use Rattle.bridge.specs.Fired.{Fired}
 use Rattle.bridge.proofs.Along.{same-along}
 
@@ -46,7 +44,7 @@ new-header t t′ c e r n z =
     rw (le-leb (word t′ rootWord) c r, le-leb (word t′ countWord) c n, z, zero) refl
 
 -- eight zeros begin with one
-blank-state : (x : Slot) → blankSlot x ≡ true → eqb (x .state) 0 ≡ true
+pub blank-state : (x : Slot) → blankSlot x ≡ true → eqb (x .state) 0 ≡ true
 unfolding blankSlot
 blank-state x e =
     and-l _ _ (and-l _ _ (and-l _ _ (and-l _ _ (and-l _ _ (and-l _ _ (and-l _ _ e))))))

@@ -1,18 +1,11 @@
 -- A change at the end of the way to a key is one of the whole tree. Assumes nothing.
-use Prim.Native.Nat.{ℕ, _+_, _≤_}
-use mathlib.Core.Path.{_≡_, refl, sym, _∙_, ap}
-use mathlib.Core.Bool.{Bool, true, false, cond}
-use mathlib.Core.Option.{none, some}
-use mathlib.Core.List.{List, [], _∷_}
+use Prim.Native.Nat.{ℕ}
+use mathlib.Core.Path.{_≡_, refl}
+use mathlib.Core.Option.{some}
 use native.Mathlib.Omega.{arith}
 use lib.Dec.{eqb, ltb}
 use Rattle.scope.proofs.Bools.{by-bool}
-use Rattle.scope.specs.Table.{word, linkAt}
 use Rattle.scope.specs.Tree.{Batch, Tree, leaf, node, size, times, Below, Above, Ordered}
-use Rattle.scope.specs.Rules.{pair}
-use Rattle.scope.specs.declared.side.Side.{Side}
-use Rattle.scope.specs.declared.side.Side.the-variants.{Left, Right}
-use Rattle.scope.specs.declared.side.Link.{Link}
 use Rattle.tree.specs.Place.{subtree, plug}
 use Rattle.bridge.specs.Seek.{seek, route, endOf, atKey, amendTop}
 

@@ -15,3 +15,6 @@ pub mod Wrote
 pub mod Keyed
 pub mod Amends
 pub mod Settles
+pub mod Grown
+pub mod Free
+pub mod Posts

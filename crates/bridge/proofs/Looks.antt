@@ -1,9 +1,8 @@
 -- A slot and a spelled node seen from a side; the sides differ only here. Assumes nothing.
 use Prim.Native.Nat.{ℕ, _≤_}
-use mathlib.Core.Path.{_≡_, refl, sym, _∙_, ap}
+use mathlib.Core.Path.{_≡_, refl}
 use mathlib.Core.Bool.{Bool, true, _&&_, not}
 use mathlib.Core.List.{List}
-use native.Mathlib.Omega.{arith}
 use lib.Dec.{eqb}
 use Rattle.scope.proofs.Bools.{and-l, and-r}
 use Rattle.scope.specs.Numbers.{other}
@@ -18,7 +17,7 @@ use Rattle.scope.specs.declared.side.Side.the-variants.{Left, Right}
 use Rattle.scope.specs.declared.slot.Slot.{Slot}
 use Rattle.words.proofs.Laws.{fits}
 use Rattle.tree.specs.Rewrite.{mk}
-use Rattle.bridge.specs.Edit.{Part, sonOn, registerOn, shape, withPart}
+use Rattle.bridge.specs.Edit.{sonOn, registerOn, shape, withPart}
 
 -- what a part's change makes of a slot seen from a side
 module _ (s : Side) (x : Slot) where

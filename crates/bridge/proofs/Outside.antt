@@ -1,5 +1,5 @@
 -- What edits in the slots of a tree leave outside it. Assumes nothing.
-use Prim.Native.Nat.{ℕ, _+_, _≤_, _<_}
+use Prim.Native.Nat.{ℕ, _+_, _≤_}
 use mathlib.Core.Path.{_≡_, refl, sym, _∙_, ap}
 use mathlib.Core.Bool.{cond}
 use mathlib.Core.List.{List, [], _∷_}
@@ -15,8 +15,8 @@ use Rattle.scope.specs.declared.side.Side.the-variants.{Left, Right}
 use Rattle.scope.specs.declared.side.Link.{Link}
 use Rattle.scope.specs.declared.slot.Slot.{Slot}
 use Rattle.sound.proofs.Frame.{frame, none-at-0}
-use Rattle.bridge.specs.Edit.{sonOn, withPart, Edit, edit, edited, rooted}
-use Rattle.bridge.specs.Below.{Hangs, relinked}
+use Rattle.bridge.specs.Edit.{sonOn, Edit, edit, edited, rooted}
+use Rattle.bridge.specs.Below.{relinked}
 use Rattle.bridge.proofs.Edited.{Inside, Rewritten}
 use Rattle.bridge.proofs.Looks.{same-son}
 

@@ -1,14 +1,14 @@
 -- Where no guard holds on words, none holds in the tree; and registers beside empty links are 0. Assumes nothing.
 use Prim.Native.Nat.{ℕ, zero, suc, _+_, _≤_, _<_}
-use mathlib.Core.Path.{_≡_, refl, sym, _∙_, ap}
+use mathlib.Core.Path.{_≡_, refl}
 use mathlib.Core.Bool.{Bool, true, false, cond, not, _&&_, _||_}
 use mathlib.Core.Option.{none, some}
 use mathlib.Core.List.{List}
 use native.Mathlib.Omega.{arith}
-use native.Mathlib.Decide.{decLe, ℕ-discrete}
+use native.Mathlib.Decide.{ℕ-discrete}
 use lib.Dec.{leb, eqb}
 use borrow.Author.Tests.{ne-eqb, le-leb, eqb-true}
-use Rattle.scope.proofs.Bools.{and-r, by-bool, neither}
+use Rattle.scope.proofs.Bools.{and-r, neither}
 use Rattle.scope.specs.Numbers.{other, rootLink, ruleOf}
 use Rattle.scope.specs.Table.{word, slotAt, son, linkAt}
 use Rattle.scope.specs.Fit.{linkOk}
@@ -16,7 +16,7 @@ use Rattle.scope.specs.Tree.{Batch, Tree, leaf, node}
 use Rattle.scope.specs.Sound.{Spells}
 use Rattle.scope.specs.Rules.{guard, guardAt}
 use Rattle.scope.specs.Fire.{hasThird}
-use Rattle.scope.specs.Tidy.{nodesAt, present, holdsAt, passes, rulesFrom, slotsFrom, nothing, quiet}
+use Rattle.scope.specs.Tidy.{holdsAt, passes, rulesFrom, slotsFrom, nothing, quiet}
 use Rattle.scope.specs.declared.rule.Pair.{Pair}
 use Rattle.scope.specs.declared.rule.Kind.{Kind}
 use Rattle.scope.specs.declared.rule.Kind.the-variants.{Propagate, Lean, Even, Double}
@@ -26,7 +26,7 @@ use Rattle.scope.specs.declared.side.Side.{Side}
 use Rattle.scope.specs.declared.side.Side.the-variants.{Left, Right}
 use Rattle.scope.specs.declared.side.Link.{Link}
 use Rattle.scope.specs.declared.outcome.Next.{Next}
-use Rattle.scope.specs.declared.outcome.Next.the-variants.{At, Nothing}
+use Rattle.scope.specs.declared.outcome.Next.the-variants.{At}
 use Rattle.words.proofs.Laws.{fits}
 use Rattle.sound.specs.Whole.{Whole}
 use Rattle.tree.specs.Rewrite.{mk, ruleOn, fireAt}

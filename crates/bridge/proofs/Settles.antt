@@ -1,7 +1,7 @@
 -- A change below the root, then words 1 and 2: the table is sound again. Assumes nothing.
-use Prim.Native.Nat.{ℕ, _+_, _≤_, _<_}
+use Prim.Native.Nat.{ℕ, _≤_}
 use mathlib.Core.Path.{_≡_, refl, sym, _∙_, ap, subst}
-use mathlib.Core.Option.{none, some}
+use mathlib.Core.Option.{some}
 use mathlib.Core.Bool.{true}
 use mathlib.Core.List.{List}
 use native.Mathlib.Omega.{arith}
@@ -11,7 +11,7 @@ use borrow.Author.Tests.{ne-eqb}
 use Rattle.scope.specs.Numbers.{rootLink}
 use Rattle.scope.specs.Table.{word, rootWord, countWord, changeWord, zeroWord, slotAt, withSlot, linkAt}
 use Rattle.scope.specs.Fit.{headerOk}
-use Rattle.scope.specs.Tree.{Batch, Tree, node, size, times}
+use Rattle.scope.specs.Tree.{Batch, Tree, node}
 use Rattle.scope.specs.Sound.{Spells, Sound}
 use Rattle.scope.specs.Post.{recordOk}
 use Rattle.scope.specs.Amend.{withPieces}
@@ -19,10 +19,11 @@ use Rattle.scope.specs.declared.side.Link.{Link}
 use Rattle.words.proofs.Laws.{header-count}
 use Rattle.sound.specs.Whole.{Whole}
 use Rattle.sound.proofs.Frame.{frame}
+use Rattle.sound.proofs.Spell.{tree-in}
 use Rattle.bridge.specs.Below.{Hangs, relinked, Below}
 use Rattle.bridge.specs.Leads.{linkAlong}
 use Rattle.bridge.specs.Seek.{seek, route, endOf, amendTop}
-use Rattle.bridge.specs.Settled.{Settled}
+use Rattle.bridge.specs.Settled.{Settled, Spelled}
 use Rattle.bridge.proofs.Outside.{first-slot}
 use Rattle.bridge.proofs.Wrote.{head-slots}
 use Rattle.bridge.proofs.Along.{hangs-along, below-along}
@@ -30,10 +31,10 @@ use Rattle.bridge.proofs.Keyed.{end-there, end-plugged, end-found, amen
 use Rattle.bridge.proofs.Amends.{amend-below}
 use Rattle.bridge.proofs.Fires.{hangs-root, new-header}
 
-pub settles : {t t₁ t₂ : List ℕ} {c : ℕ} {T T′ : Tree} → headerOk c t ≡ true → Below t t₁ c rootLink T T′ → Settled t₁ t₂ c T′ → Sound t₂ c
+pub settles : {t t₁ t₂ : List ℕ} {c : ℕ} {T T′ : Tree} → headerOk c t ≡ true → Below t t₁ c rootLink T T′ → Settled t₁ t₂ c T′ → Spelled t₂ c T′
 settles {t} {t₁} {t₂} {c} {T} {T′} e b s =
     let top : word t₂ rootWord ≡ b .top = s .root ∙ b .root in
-    record {
+    let s₂ : Sound t₂ c = record {
       header = new-header t t₂ c e (rw top (b .most)) (omega (arith, s .count, s .room)) (s .zero ∙ b .head 3 (omega arith) (omega arith));
       tree = T′;
       reached = rw top (frame t₁ t₂ c (b .top) T′ (λ k i. s .slots k (first-slot t₁ c (b .top) T′ (b .spells) k i)) (b .spells));
@@ -41,7 +42,8 @@ settles {t} {t₁} {t₂} {c} {T} {T′} e b s =
       count = s .count;
       order = s .order;
       rest = λ k i j z. rw (s .slots k i) (s .rest k i j z);
-    }
+    } in
+    record { sound = s₂; tree = tree-in t₂ c s₂ }
 
 -- the record of a key is amended
 module _ {t : List ℕ} {c : ℕ} (w : Whole t c) (key pieces state : ℕ) (ok : recordOk key pieces state ≡ true) (d : Batch)
@@ -75,7 +77,7 @@ module _ {t : List ℕ} {c : ℕ} (w : Whole t c) (key pieces state : ℕ) (ok :
   outer : (k : ℕ) → 1 ≤ k → relinked rootLink (below-root .top) k (slotAt t k) ≡ slotAt t k
   outer k i = rw (ne-eqb k 0 (λ q. omega arith)) refl
 
-  pub amended-whole : Sound (set t₁ changeWord n) c
+  pub amended-whole : Spelled (set t₁ changeWord n) c (amendedTree key pieces state T)
   amended-whole =
       settles (w .sound .header) below-root
       (record {

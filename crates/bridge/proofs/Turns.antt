@@ -1,11 +1,10 @@
 -- A propagation and a rotation on words are those on the tree that hangs at the link. Assumes nothing.
-use Prim.Native.Nat.{ℕ, _+_, _≤_, _<_}
+use Prim.Native.Nat.{ℕ, _+_, _≤_}
 use mathlib.Core.Path.{_≡_, refl, sym, _∙_, ap}
 use mathlib.Core.Bool.{true}
 use mathlib.Core.List.{List, [], _∷_}
 use native.Mathlib.Omega.{arith}
 use borrow.Author.Tests.{eq-eqb, ne-eqb, le-leb}
-use lib.Dec.{eqb}
 use Rattle.scope.specs.Numbers.{other, mostHeight}
 use Rattle.scope.specs.Table.{word, slotAt, son, linkAt, written}
 use Rattle.scope.specs.Fit.{linkOk}
@@ -24,7 +23,7 @@ use Rattle.tree.proofs.Sides.{times-mk}
 use Rattle.bridge.specs.Edit.{sonOn, registerOn, Edit, edit, writes, edited, shape, propagates, rotates}
 use Rattle.bridge.specs.Below.{Hangs, Below}
 use Rattle.bridge.proofs.Edited.{Rewritten, rewritten}
-use Rattle.bridge.proofs.Looks.{shape-self, near-son, far-son, near-register, far-register, FitFrom, fit-from, Looks, look, spell}
+use Rattle.bridge.proofs.Looks.{shape-self, near-son, far-son, near-register, far-register, fit-from, Looks, look, spell}
 use Rattle.bridge.proofs.Outside.{same-one, Away, StandsIn, InTree, in-inside, steady, steady-root, outside-slots, outside-root, left-slots, left-root, stays}
 
 -- a link to a slot of the table, beside a register in range

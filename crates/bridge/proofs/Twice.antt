@@ -1,5 +1,5 @@
 -- A double rotation on words is that on the tree that hangs at the link. Assumes nothing.
-use Prim.Native.Nat.{ℕ, _+_, _≤_, _<_, max}
+use Prim.Native.Nat.{ℕ, _+_, _≤_, max}
 use mathlib.Core.Path.{_≡_, refl, sym, _∙_, ap}
 use mathlib.Core.List.{List, [], _∷_}
 use native.Mathlib.Omega.{arith}
@@ -21,7 +21,7 @@ use Rattle.bridge.specs.Below.{Hangs, Below}
 use Rattle.bridge.proofs.Edited.{Rewritten, rewritten}
 use Rattle.bridge.proofs.Looks.{shape-self, near-son, far-son, near-register, far-register, fit-from, Looks, look, spell}
 use Rattle.bridge.proofs.Outside.{same-one, Away, StandsIn, InTree, in-inside, outside-slots, outside-root, stays}
-use Rattle.bridge.proofs.Turns.{link-on, look-v, look-u, y-most, total, v-in, u-in, x-y, not-holder}
+use Rattle.bridge.proofs.Turns.{link-on, look-v, look-u, total, v-in, u-in, x-y, not-holder}
 
 -- v over its near son u over its far son w, at link l
 module _ {t : List ℕ} {c : ℕ} (l : Link) (s : Side) (dv du dw : Batch) (v u w : Pair) (m e f far : Tree)

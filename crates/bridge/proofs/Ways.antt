@@ -1,12 +1,12 @@
 -- Every link of a slot that a tree has is at the end of a way. Assumes nothing.
 use Prim.Native.Nat.{ℕ, _+_, _≤_}
-use mathlib.Core.Path.{_≡_, refl, sym, _∙_, ap}
+use mathlib.Core.Path.{_≡_, refl, ap}
 use mathlib.Core.Option.{some}
 use mathlib.Core.List.{List, [], _∷_}
 use native.Mathlib.Omega.{arith}
 use native.Mathlib.Decide.{decLe, ℕ-discrete}
 use borrow.Author.Tests.{ne-eqb}
-use Rattle.scope.specs.Table.{word, slotAt, linkAt}
+use Rattle.scope.specs.Table.{word, linkAt}
 use Rattle.scope.specs.Tree.{Batch, Tree, leaf, node, times, same}
 use Rattle.scope.specs.Sound.{Spells}
 use Rattle.scope.specs.declared.side.Side.{Side}

@@ -9,7 +9,6 @@ use Rattle.scope.specs.Rules.{seen, localHeight, turnedV, doubledU, doubledV}
 use Rattle.scope.specs.declared.rule.Pair.{Pair}
 use Rattle.scope.specs.declared.side.Side.{Side}
 use Rattle.scope.specs.declared.side.Side.the-variants.{Left, Right}
-use Rattle.scope.specs.declared.side.Link.{Link}
 use Rattle.scope.specs.declared.slot.Slot.{Slot}
 use Rattle.scope.specs.declared.outcome.Nodes.{Nodes}
 

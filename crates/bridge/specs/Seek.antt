@@ -1,6 +1,6 @@
 -- The search walk on a tree: what it finds, the way that it takes, and how many nodes it visits. Assumes nothing: these are definitions.
 use Prim.Native.Nat.{ℕ, suc}
-use mathlib.Core.Bool.{Bool, cond}
+use mathlib.Core.Bool.{cond}
 use mathlib.Core.Option.{Option, none, some}
 use mathlib.Core.List.{List, [], _∷_}
 use lib.Dec.{eqb, ltb}

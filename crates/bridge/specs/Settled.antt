@@ -6,6 +6,7 @@ use mathlib.Core.List.{List}
 use Rattle.scope.specs.Table.{word, rootWord, countWord, zeroWord, slotAt}
 use Rattle.scope.specs.Fit.{blankSlot}
 use Rattle.scope.specs.Tree.{Tree, size, times, Ordered}
+use Rattle.scope.specs.Sound.{Sound, treeIn}
 use Rattle.words.specs.Ready.{Sized}
 
 -- t₂ is t₁ with other words 1 and 2, and T is a tree that a table of c slots may spell
@@ -19,3 +20,8 @@ pub record Settled (t₁ t₂ : List ℕ) (c : ℕ) (T : Tree) : Type 0 where
   pub once : (k : ℕ) → 1 ≤ k → k ≤ c → times k T ≤ 1
   pub order : Ordered T
   pub rest : (k : ℕ) → 1 ≤ k → k ≤ c → times k T ≡ 0 → blankSlot (slotAt t₁ k) ≡ true
+
+-- a sound table, and the tree that it spells
+pub record Spelled (t : List ℕ) (c : ℕ) (T : Tree) : Type 0 where
+  pub sound : Sound t c
+  pub tree : treeIn t c ≡ T

@@ -1,5 +1,5 @@
 -- Demand 2: on a sound table find, rank and total answer as the ledger does. Assumes nothing.
-use Prim.Native.Nat.{ℕ, _-_}
+use Prim.Native.Nat.{ℕ}
 use mathlib.Core.Path.{_≡_, refl, sym, _∙_, ap}
 use mathlib.Core.Bool.{Bool, true, false, cond, not}
 use mathlib.Core.Option.{Option, none, some}
@@ -63,7 +63,7 @@ module _ {t : List ℕ} {c : ℕ} (w : Whole t c) where
       let state : slotAt t (d .slot) .state ≡ d .state = ap (λ (b : Batch). b .state) (sym at) in
       rw (pieces, state) refl
 
-  lookup-is : (key : ℕ) → mapEntry (seek key T) ≡ lookup key (ledgerOf t c .entries)
+  pub lookup-is : (key : ℕ) → mapEntry (seek key T) ≡ lookup key (ledgerOf t c .entries)
   lookup-is key = rw (tree-in t c (w .sound)) (sym (seek-lookup key T (w .sound .order)))
 
   -- FIND, its visits apart

@@ -1,20 +1,21 @@
 -- What is asked of a tree in order is what is asked of its records in a list. Assumes nothing.
-use Prim.Native.Nat.{ℕ, _+_, _≤_}
+use Prim.Native.Nat.{ℕ, _≤_}
 use mathlib.Core.Path.{_≡_, refl, sym, _∙_, ap}
 use mathlib.Core.Bool.{false, cond}
 use mathlib.Core.Option.{Option, none, some}
 use mathlib.Core.List.{List, _∷_, _++_, map-append}
 use native.Mathlib.Omega.{arith}
-use lib.ListN.{length, length-map}
+use lib.ListN.{length, length-map, length-append}
 use lib.Dec.{eqb, ltb}
 use borrow.Author.Tests.{eq-eqb, ne-eqb, eqb-true, ltb-true, ltb-false}
 use Rattle.scope.proofs.Bools.{by-bool}
-use Rattle.scope.specs.Tree.{Batch, Tree, leaf, node, inOrder, Below, Above, Ordered}
+use Rattle.scope.specs.Tree.{Batch, Tree, leaf, node, size, inOrder, Below, Above, Ordered}
 use Rattle.scope.specs.Sums.{totalOf}
 use Rattle.bridge.specs.Seek.{seek, atKey, amendTop}
 use Rattle.bridge.proofs.Keyed.{amendedTree}
-use Rattle.ledger.specs.Entries.{Entry, lookup, replace, sumTo}
-use Rattle.ledger.proofs.Lists.{orElse, lookup-append, sum-append, replace-left, replace-right}
+use Rattle.bridge.proofs.Grown.{missing, grown}
+use Rattle.ledger.specs.Entries.{Entry, lookup, insert, replace, sumTo}
+use Rattle.ledger.proofs.Lists.{orElse, lookup-append, sum-append, replace-left, replace-right, NoneAfter, none-after, insert-left, insert-right}
 use Rattle.demands.specs.Ledgers.{entryOf, entriesOf}
 
 -- a node's records are those on its left, its own, and those on its right
@@ -108,3 +109,39 @@ module _ (key pieces state : ℕ) where
 
       past : (d : Batch) (r : Tree) → eqb key (d .key) ≡ false → replace new (entryOf d ∷ entriesOf r) ≡ entryOf d ∷ replace new (entriesOf r)
       past d r e = unfold replace in rw e refl
+
+pub entries-size : (T : Tree) → length (entriesOf T) ≡ size T
+unfolding size inOrder
+entries-size leaf = refl
+entries-size (node d a b l r) =
+    ap length (entries-node d a b l r) ∙ length-append (entriesOf l) (entryOf d ∷ entriesOf r)
+    ∙ omega (arith, entries-size l, entries-size r)
+
+pub not-less : (a b : ℕ) → b ≤ a → ltb a b ≡ false
+not-less a b h = by-bool (ltb a b) (λ e. absurd (omega (arith, ltb-true a b e))) (λ e. e)
+
+below-before : (key m : ℕ) (T : Tree) → Below m T → m ≤ key → NoneAfter key (entriesOf T)
+unfolding Below
+below-before key m leaf h i = unfold inOrder in tt
+below-before key m (node d a b l r) h i =
+    rw (entries-node d a b l r)
+    (none-after key (entriesOf l) (entryOf d ∷ entriesOf r) (below-before key m l (h .1) i)
+    (not-less key (d .key) (omega (arith, h .0)), below-before key m r (h .2) i))
+
+-- THE GROWN TREE has the list with the new record inserted
+module _ (new : Batch) where
+  pub grown-entries : (T : Tree) → seek (new .key) T ≡ none → Ordered T → entriesOf (grown new T) ≡ insert (entryOf new) (entriesOf T)
+  unfolding Ordered atKey
+  grown-entries leaf e h = unfold inOrder insert in refl
+  grown-entries (node d a b l r) e h =
+      missing (new .key) d a b l r e
+      (λ p left right. by-bool (ltb (new .key) (d .key))
+      (λ f. simp (p, f) (entries-node d a b (grown new l) r ∙ ap (λ (x : List Entry). x ++ (entryOf d ∷ entriesOf r)) (grown-entries l (left f) (h .2))
+      ∙ sym (rw (entries-node d a b l r) (insert-left (entryOf new) (entriesOf l) (entryOf d) (entriesOf r) f))))
+      (λ f. simp (p, f) (entries-node d a b l (grown new r) ∙ ap (λ (x : List Entry). entriesOf l ++ (entryOf d ∷ x)) (grown-entries r (right f) (h .3))
+      ∙ sym (rw (entries-node d a b l r) (insert-right (entryOf new) (entriesOf l) (entryOf d ∷ entriesOf r)
+      (below-before (new .key) (d .key) l (h .0) (omega (arith, ltb-false (new .key) (d .key) f)))
+      ∙ ap (λ (x : List Entry). entriesOf l ++ x) (behind d r f))))))
+    where
+      behind : (d : Batch) (r : Tree) → ltb (new .key) (d .key) ≡ false → insert (entryOf new) (entryOf d ∷ entriesOf r) ≡ entryOf d ∷ insert (entryOf new) (entriesOf r)
+      behind d r f = unfold insert in rw f refl

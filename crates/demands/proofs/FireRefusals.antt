@@ -1,5 +1,5 @@
--- Demand 1 for fire: accepted, or refused with a listed code and nothing written. Assumes nothing.
-use Prim.Native.Nat.{ℕ, _-_}
+-- Demand 1: fire, whatever the words and arguments: accepted, or refused with a listed code. Assumes nothing.
+use Prim.Native.Nat.{ℕ}
 use mathlib.Core.Path.{_≡_, refl}
 use mathlib.Core.Bool.{true, not, _&&_}
 use mathlib.Core.List.{List}
@@ -8,7 +8,7 @@ use lib.Dec.{eqb, leb}
 use Rattle.scope.specs.Numbers.{other, mostHeight, ruleOf, linkOf}
 use Rattle.scope.specs.Table.{word, slotsIn, slotAt, linkAt, son}
 use Rattle.scope.specs.Fit.{fitSlot, headerOk}
-use Rattle.scope.specs.Answers.{codeOf, accepted, refused}
+use Rattle.scope.specs.Answers.{codeOf}
 use Rattle.scope.specs.Rules.{guardAt, highestAt}
 use Rattle.scope.specs.Fire.{hasThird, takeOf, onTaken, judged, aimW, aimU, aimV, aim, aimed, onRule, onLink, firingIn, firePlan, fired, fireOf}
 use Rattle.scope.specs.Calls.{Fire}
@@ -29,7 +29,7 @@ use Rattle.scope.specs.declared.outcome.Nodes.{Nodes}
 use Rattle.scope.specs.declared.outcome.Firing.{Firing}
 use Rattle.scope.specs.declared.outcome.Firing.the-variants as firing
 use Rattle.demands.specs.Listed.{codes, among, Answered, accepts, refuses}
-use Rattle.demands.proofs.Either.{either}
+use Rattle.demands.proofs.Refusals.{either}
 
 -- fire: its slots, its guard and its limit
 data Takes : Taken → Type 0 where

@@ -1,7 +1,7 @@
--- Demand 1: any call, on any words and arguments, is accepted, or refused with a listed code and nothing written. Assumes nothing.
+-- Demand 1: ten of the calls, whatever the words and arguments: accepted, or refused with a listed code. Assumes nothing.
 use Prim.Native.Nat.{ℕ, _-_}
-use mathlib.Core.Path.{_≡_, refl, sym, ap}
-use mathlib.Core.Bool.{Bool, true, false, not, _&&_}
+use mathlib.Core.Path.{_≡_, refl}
+use mathlib.Core.Bool.{Bool, true, false, cond, not, _&&_}
 use mathlib.Core.List.{List, [], _∷_}
 use lib.ListN.{length}
 use lib.Dec.{eqb, ltb}
@@ -9,17 +9,16 @@ use Rattle.scope.proofs.Bools.{neither}
 use Rattle.scope.specs.Numbers.{lastChange}
 use Rattle.scope.specs.Table.{word, countWord, changeWord, slotsIn, slotAt, son}
 use Rattle.scope.specs.Fit.{blankSlot, headerOk}
-use Rattle.scope.specs.Answers.{Done, codeOf, accepted, refusal, refused, gate, answering, admit, onSlots}
+use Rattle.scope.specs.Answers.{Done, codeOf, refused, gate, answering, admit, onSlots}
 use Rattle.scope.specs.Walk.{walkOf}
 use Rattle.scope.specs.Find.{started, startOf, foundIn, findAnswer}
 use Rattle.scope.specs.Post.{recordOk, freeSlot, posting, hangAt, postingAt, postPlan, posted, postOf, leafSlot}
 use Rattle.scope.specs.Amend.{amending, amendingAt, amendPlan, amended, amendOf}
 use Rattle.scope.specs.Drop.{dropping, leftmostFrom, ifMay, replacing, dropAt, droppingAt, dropPlan, dropped, dropOf}
 use Rattle.scope.specs.Sound.{soundTable, treeIn}
-use Rattle.scope.specs.Sums.{soundGate, checkAnswer, rankOf, ranked, rankAnswer, totalOf, totalAnswer}
-use Rattle.scope.specs.Worth.{worthOf, worthAnswer}
+use Rattle.scope.specs.Sums.{soundGate, rankOf, ranked, rankAnswer}
 use Rattle.scope.specs.Tidy.{tidying, tidyFrom, tidied, tidyOf}
-use Rattle.scope.specs.Calls.{Call, Start, Check, Find, Post, Amend, Drop, Rank, Total, Worth, Fire, Tidy, answerOf, tableOf}
+use Rattle.scope.specs.Calls.{Start, Find, Post, Amend, Drop, Rank, Tidy}
 use Rattle.scope.specs.declared.answer.Answer.{Answer}
 use Rattle.scope.specs.declared.answer.Refusal.{Refusal}
 use Rattle.scope.specs.declared.answer.Refusal.the-variants.{WrongLength, OutOfRange, Damaged, KeyPresent, KeyAbsent, NoFreeSlot, LastChange}
@@ -43,8 +42,11 @@ use Rattle.scope.specs.declared.outcome.Dropping.the-variants as dropping-is
 use Rattle.scope.specs.declared.outcome.Rank as rank-is
 use Rattle.scope.specs.declared.outcome.Rank.the-variants as ranks
 use Rattle.demands.specs.Listed.{codes, among, Answered, accepts, refuses}
-use Rattle.demands.proofs.Either.{either}
-use Rattle.demands.proofs.FireRefusals.{fire-answered}
+
+-- what holds of both ends of a test holds of what it comes to
+pub either : {A : Type 0} (P : A → Type 0) (b : Bool) {x y : A} → P x → P y → P (cond b x y)
+either P true p q = p
+either P false p q = q
 
 -- what the plans of post, amend and drop may be
 data Posts (listed : List ℕ) : Posting → Type 0 where
@@ -82,17 +84,17 @@ module _ (t listed : List ℕ) (good : Bool) (whole : ℕ → Bool) (F : Gate �
       on (Within s) = tests (s .count) good (whole (s .count)) refl refl
 
 module _ (t : List ℕ) where
-  start-answered : Answered (codes Start) t (startOf t)
+  pub start-answered : Answered (codes Start) t (startOf t)
   unfolding startOf
   start-answered =
       by-gate t (codes Start) true (λ c. true) (started t) (λ why. refl) refl (λ e. neither refl e) (λ c e. neither refl e) (λ c. accepts refl)
 
   -- calls that want a sound table and have no argument to test
-  whole-answered : (f : ℕ → Answer) → ((c : ℕ) → f c .code ≡ 0) → Answered (1 ∷ 3 ∷ []) t (only t (answering (soundGate t true) f))
+  pub whole-answered : (f : ℕ → Answer) → ((c : ℕ) → f c .code ≡ 0) → Answered (1 ∷ 3 ∷ []) t (only t (answering (soundGate t true) f))
   whole-answered f h =
       by-gate t (1 ∷ 3 ∷ []) true (λ c. soundTable t c) (λ g. only t (answering g f)) (λ why. refl) refl (λ e. neither refl e) (λ c e. refl) (λ c. accepts (h c))
 
-  tidy-answered : (budget : ℕ) → Answered (codes (Tidy budget)) t (tidyOf t budget)
+  pub tidy-answered : (budget : ℕ) → Answered (codes (Tidy budget)) t (tidyOf t budget)
   unfolding tidyOf tidied
   tidy-answered budget =
       by-gate t (codes (Tidy budget)) true (λ c. soundTable t c) (λ g. tidying t g (λ c. tidied t c (tidyFrom budget c t 0)))
@@ -104,7 +106,7 @@ module _ (t : List ℕ) where
   ranked-answered r (ranks.At slot) = accepts refl
   ranked-answered r (ranks.Past n) = refuses KeyAbsent refl
 
-  rank-answered : (r : ℕ) → Answered (codes (Rank r)) t (only t (rankAnswer t r))
+  pub rank-answered : (r : ℕ) → Answered (codes (Rank r)) t (only t (rankAnswer t r))
   unfolding rankAnswer
   rank-answered r =
       by-gate t (codes (Rank r)) (not (eqb r 0)) (λ c. soundTable t c) (λ g. only t (answering g (λ c. ranked t (rankOf r (treeIn t c)))))
@@ -116,7 +118,7 @@ module _ (t : List ℕ) where
   found-answered key (Miss link seen) = refuses KeyAbsent refl
   found-answered key Damage = refuses Damaged refl
 
-  find-answered : (key : ℕ) → Answered (codes (Find key)) t (only t (findAnswer t key))
+  pub find-answered : (key : ℕ) → Answered (codes (Find key)) t (only t (findAnswer t key))
   unfolding findAnswer
   find-answered key =
       by-gate t (codes (Find key)) (not (eqb key 0)) (λ c. headerOk c t) (λ g. only t (answering g (λ c. foundIn t (walkOf t c key))))
@@ -143,7 +145,7 @@ module _ (t : List ℕ) where
     posts new x (refuse why e) = refuses why e
     posts new x hang = accepts refl
 
-    post-answered : Answered (codes (Post key pieces state)) t (postOf t key pieces state)
+    pub post-answered : Answered (codes (Post key pieces state)) t (postOf t key pieces state)
     unfolding postOf postPlan posted
     post-answered =
         by-gate t (codes (Post key pieces state)) (recordOk key pieces state) (λ c. headerOk c t)
@@ -162,7 +164,7 @@ module _ (t : List ℕ) where
     amends x (not-amend why e) = refuses why e
     amends x change = accepts refl
 
-    amend-answered : Answered (codes (Amend key pieces state)) t (amendOf t key pieces state)
+    pub amend-answered : Answered (codes (Amend key pieces state)) t (amendOf t key pieces state)
     unfolding amendOf amendPlan amended
     amend-answered =
         by-gate t (codes (Amend key pieces state)) (recordOk key pieces state) (λ c. headerOk c t)
@@ -196,40 +198,9 @@ module _ (t : List ℕ) where
     drops x lift = accepts refl
     drops x replace = accepts refl
 
-    drop-answered : Answered (codes (Drop key)) t (dropOf t key)
+    pub drop-answered : Answered (codes (Drop key)) t (dropOf t key)
     unfolding dropOf dropPlan dropped
     drop-answered =
         by-gate t (codes (Drop key)) (not (eqb key 0)) (λ c. headerOk c t)
         (λ g. dropped t (dropping g (λ c. droppingAt t c (walkOf t c key))))
         (λ why. refl) refl (λ e. refl) (λ c e. refl) (λ c. drops _ (dropping-may c (walkOf t c key)))
-
--- DEMAND 1: every call, for any words and arguments
-pub answered : (x : Call) (t : List ℕ) → Answered (codes x) t (record { answer = answerOf x t; words = tableOf x t })
-unfolding answerOf tableOf checkAnswer totalAnswer worthAnswer
-answered Start t = start-answered t
-answered Check t = whole-answered t (λ c. accepted (word t changeWord) 0 0 0) (λ c. refl)
-answered (Find key) t = find-answered t key
-answered (Post key pieces state) t = post-answered t key pieces state
-answered (Amend key pieces state) t = amend-answered t key pieces state
-answered (Drop key) t = drop-answered t key
-answered (Rank r) t = rank-answered t r
-answered (Total K) t = whole-answered t (λ c. accepted (word t changeWord) (totalOf K (treeIn t c)) 0 0) (λ c. refl)
-answered Worth t = whole-answered t (λ c. accepted (word t changeWord) (worthOf (treeIn t c)) 0 0) (λ c. refl)
-answered (Fire rule holder side) t = fire-answered t rule holder side
-answered (Tidy budget) t = tidy-answered t budget
-
--- so a code that is not 0 comes with four zeros, is listed, and leaves every word
-pub record Refused (x : Call) (t : List ℕ) : Type 0 where
-  pub why : Refusal
-  pub answer : answerOf x t ≡ refusal why
-  pub words : tableOf x t ≡ t
-  pub listed : among (codeOf why) (codes x) ≡ true
-
-says : (x : Call) (t : List ℕ) (d : Done) → d ≡ record { answer = answerOf x t; words = tableOf x t } → Answered (codes x) t d
-    → (d .answer .code ≡ 0 → ⊥) → Refused x t
-says x t d e (accepts z) ne = absurd (ne z)
-says x t d e (refuses why l) ne =
-    record { why = why; answer = ap (λ (y : Done). y .answer) (sym e); words = ap (λ (y : Done). y .words) (sym e); listed = l }
-
-pub refused-is : (x : Call) (t : List ℕ) → (answerOf x t .code ≡ 0 → ⊥) → Refused x t
-refused-is x t = says x t (record { answer = answerOf x t; words = tableOf x t }) refl (answered x t)

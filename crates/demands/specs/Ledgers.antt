@@ -1,12 +1,15 @@
 -- The ledger of a table: its records in the order of their keys, its change number, and its slots. Assumes nothing.
 use Prim.Native.Nat.{ℕ}
+use mathlib.Core.Path.{_≡_}
 use mathlib.Core.List.{List, map}
 use Rattle.scope.specs.Table.{word, changeWord}
 use Rattle.scope.specs.Tree.{Batch, Tree, inOrder}
 use Rattle.scope.specs.Sound.{treeIn}
+use Rattle.scope.specs.Answers.{Done}
 use Rattle.scope.specs.declared.answer.Answer.{Answer}
+use Rattle.sound.specs.Whole.{Whole}
 use Rattle.ledger.specs.Entries.{Entry}
-use Rattle.ledger.specs.Ledger.{Ledger}
+use Rattle.ledger.specs.Ledger.{Ledger, Entered}
 
 -- a record without its slot
 abbrev pub entryOf : Batch → Entry
@@ -24,3 +27,9 @@ noVisits a = record { code = a .code; change = a .change; value = a .value; more
 
 abbrev pub noSlot : Answer → Answer
 noSlot a = record { code = a .code; change = a .change; value = 0; more = a .more; kind = a .kind }
+
+-- a call on a table did what it does to the ledger: the answer, its slot apart; sound again; and the ledger afterwards
+pub record AsLedger (d : Done) (c : ℕ) (e : Entered) : Type 0 where
+  pub answer : noSlot (d .answer) ≡ e .answer
+  pub whole : Whole (d .words) c
+  pub ledger : ledgerOf (d .words) c ≡ e .ledger

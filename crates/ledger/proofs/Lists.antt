@@ -1,13 +1,13 @@
 -- Two lists of records one after the other. Assumes nothing.
 use Prim.Native.Nat.{ℕ, _+_}
-use mathlib.Core.Path.{_≡_, refl, sym, _∙_, ap}
-use mathlib.Core.Bool.{true, false, cond}
+use mathlib.Core.Path.{_≡_, refl}
+use mathlib.Core.Bool.{true, false}
 use mathlib.Core.Option.{Option, none, some}
 use mathlib.Core.List.{List, [], _∷_, _++_}
 use native.Mathlib.Omega.{arith}
-use lib.Dec.{eqb}
+use lib.Dec.{eqb, ltb}
 use Rattle.scope.proofs.Bools.{by-bool}
-use Rattle.ledger.specs.Entries.{Entry, lookup, replace, sumTo}
+use Rattle.ledger.specs.Entries.{Entry, lookup, insert, replace, sumTo}
 
 -- the first, where it is there
 abbrev pub orElse : Option Entry → Option Entry → Option Entry
@@ -50,3 +50,26 @@ module _ (new : Entry) where
   unfolding replace
   replace-right [] ys e = refl
   replace-right (x ∷ xs) ys e = not-here (new .key) x xs e (λ p q. simp (p, replace-right xs ys q))
+
+-- no stamp of a list is larger
+abbrev pub NoneAfter : ℕ → List Entry → Type 0
+NoneAfter key [] = Unit {0}
+NoneAfter key (x ∷ xs) = (ltb key (x .key) ≡ false) × NoneAfter key xs
+
+pub none-after : (key : ℕ) (xs ys : List Entry) → NoneAfter key xs → NoneAfter key ys → NoneAfter key (xs ++ ys)
+none-after key [] ys h k = k
+none-after key (x ∷ xs) ys h k = (h .0, none-after key xs ys (h .1) k)
+
+-- a record goes into the first part where the second begins with a larger stamp, and into the second where the first has none
+module _ (new : Entry) where
+  pub insert-left : (xs : List Entry) (y : Entry) (ys : List Entry) → ltb (new .key) (y .key) ≡ true
+      → insert new (xs ++ (y ∷ ys)) ≡ insert new xs ++ (y ∷ ys)
+  unfolding insert
+  insert-left [] y ys e = rw e refl
+  insert-left (x ∷ xs) y ys e =
+      by-bool (ltb (new .key) (x .key)) (λ p. simp p) (λ p. simp (p, insert-left xs y ys e))
+
+  pub insert-right : (xs ys : List Entry) → NoneAfter (new .key) xs → insert new (xs ++ ys) ≡ xs ++ insert new ys
+  unfolding insert
+  insert-right [] ys h = refl
+  insert-right (x ∷ xs) ys h = simp (h .0, insert-right xs ys (h .1))

@@ -1,6 +1,6 @@
 -- What each call answers and leaves on a ledger. Where a table answers a slot or how many it visited, the ledger says 0.
 use Prim.Native.Nat.{ℕ, _+_}
-use mathlib.Core.Bool.{Bool, cond, not}
+use mathlib.Core.Bool.{cond}
 use mathlib.Core.Option.{Option, none, some}
 use mathlib.Core.List.{List}
 use lib.ListN.{length}
@@ -11,7 +11,7 @@ use Rattle.scope.specs.Post.{recordOk}
 use Rattle.scope.specs.declared.answer.Answer.{Answer}
 use Rattle.scope.specs.declared.answer.Refusal.{Refusal}
 use Rattle.scope.specs.declared.answer.Refusal.the-variants.{OutOfRange, KeyPresent, KeyAbsent, NoFreeSlot, LastChange}
-use Rattle.ledger.specs.Entries.{Entry, lookup, insert, replace, remove, sumTo, nth}
+use Rattle.ledger.specs.Entries.{Entry, lookup, insert, replace, remove, sumTo}
 
 -- the records in the order of their stamps, the change number, and how many records there is room for
 pub record Ledger : Type 0 where
