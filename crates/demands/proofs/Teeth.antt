@@ -64,7 +64,8 @@ no-idle-post r p =
     omega (arith, run .post-writes, ap (λ (u : List ℕ). word u 1) (p .words))
 
 -- a fire that refuses everything
-pub no-refusing-fire : (why : Refusal) (u : List ℕ) → (refusal why .code ≡ 0 → ⊥) → Promise (fire 2 0 0) two (refusal why) u → ⊥
+pub no-refusing-fire : (why : Refusal) (u : List ℕ) → (refusal why .code ≡ 0 → ⊥)
+    → Promise (fire 2 0 0) two (refusal why) u → ⊥
 no-refusing-fire why u ne p = ne (ap (λ (a : Answer). a .code) (p .answer) ∙ run .fire-accepted)
 
 -- a fire that writes nothing
