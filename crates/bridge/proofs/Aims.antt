@@ -52,7 +52,8 @@ module _ (t : List ℕ) (Q : Tree → List ℕ → Type 0) where
   alike-by e g h = rw (e, g) h
 
   -- the guard first, then the limit
-  judge : (k : Kind) (s : Side) (n : Nodes) (v u w : Pair) (T : Tree) → v ≡ seen s (n .sv) → u ≡ seen s (n .su) → w ≡ seen s (n .sw)
+  judge : (k : Kind) (s : Side) (n : Nodes) (v u w : Pair) (T : Tree) → v ≡ seen s (n .sv) → u ≡ seen s (n .su)
+      → w ≡ seen s (n .sw)
       → (highest k v u w ≤ mostHeight → Q T (written t (actionAt (ruleOn k s) n)))
       → Alike t Q (when (within mostHeight k v u w) T) (judged (ruleOn k s) n)
   unfolding judged guardAt highestAt
@@ -92,13 +93,15 @@ module _ (t : List ℕ) (c : ℕ) (l : Link) where
     unfolding aimU
     no-u sv e = rw (e, take-none) refl
 
-    got-u : {d : Batch} {u : Pair} {near far : Tree} → Looks t c (y s) s d u near far → (y s ≡ l .holder → ⊥) → (y s ≡ x → ⊥)
+    got-u : {d : Batch} {u : Pair} {near far : Tree} → Looks t c (y s) s d u near far → (y s ≡ l .holder → ⊥)
+        → (y s ≡ x → ⊥)
         → hasThird k ≡ false → aimU t c (ruleOn k s) l x (slotAt t x)
         ≡ judged (ruleOn k s) (record { link = l; v = x; u = y s; w = y s; sv = slotAt t x; su = slotAt t (y s); sw = slotAt t (y s) })
     unfolding aimU
     got-u a nh nv e = simp (take-got a (l .holder) x 0 nh nv (λ q. omega (arith, a .there)), e)
 
-    got-w : {d : Batch} {u : Pair} {near far : Tree} → Looks t c (y s) s d u near far → (y s ≡ l .holder → ⊥) → (y s ≡ x → ⊥)
+    got-w : {d : Batch} {u : Pair} {near far : Tree} → Looks t c (y s) s d u near far → (y s ≡ l .holder → ⊥)
+        → (y s ≡ x → ⊥)
         → hasThird k ≡ true → aimU t c (ruleOn k s) l x (slotAt t x) ≡ aimW t c (ruleOn k s) l x (slotAt t x) (y s) (slotAt t (y s))
     unfolding aimU
     got-w a nh nv e = simp (take-got a (l .holder) x 0 nh nv (λ q. omega (arith, a .there)), e)

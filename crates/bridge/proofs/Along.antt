@@ -123,7 +123,8 @@ aim-held t c r l e =
 
 -- what is alike for a son is so for its node
 hung-alike : (t : List ℕ) (Q R : Tree → List ℕ → Type 0) (s : Side) (d : Batch) (p : Pair) (far : Tree) (o : Option Tree) (f : Firing)
-    → ((near : Tree) (t′ : List ℕ) → Q near t′ → R (mk s d p near far) t′) → Alike t Q o f → Alike t R (hung s d p o far) f
+    → ((near : Tree) (t′ : List ℕ) → Q near t′ → R (mk s d p near far) t′) → Alike t Q o f
+    → Alike t R (hung s d p o far) f
 hung-alike t Q R s d p far none (Refuse why) up a = a
 hung-alike t Q R s d p far none (Fire r n) up a = a
 hung-alike t Q R s d p far (some near) (Refuse why) up a = a
@@ -162,7 +163,8 @@ on-hung : (s : Side) (d : Batch) (p : Pair) (far T′ : Tree) (o : Option Tree) 
 on-hung s d p far T′ none e P k = no-tree e
 on-hung s d p far T′ (some near) e P k = let q : mk s d p near far ≡ T′ = cc in rw (← q) (k near refl)
 
-pub below-along : {t t′ : List ℕ} {c : ℕ} (way : List Side) (l : Link) (T S S′ T′ : Tree) → Hangs t c l T → subtree way T ≡ some S
+pub below-along : {t t′ : List ℕ} {c : ℕ} (way : List Side) (l : Link) (T S S′ T′ : Tree) → Hangs t c l T
+    → subtree way T ≡ some S
     → plug way S′ T ≡ some T′ → Below t t′ c (linkAlong t way l) S S′ → Below t t′ c l T T′
 unfolding subtree plug linkAlong
 below-along [] l T S S′ T′ h e f b =

@@ -55,7 +55,8 @@ side-left : (n : ℕ) (s : Side) → sideOf n ≡ side-is.Known s → n ≡ 0 �
 unfolding sideOf
 side-left n s e z = let q = rw z at e in cc
 
-known-in : (c holder n : ℕ) (i : SideIs) (l : Link) → holder ≤ c → sideOf n ≡ i → knownLink holder n i ≡ link-is.Known l → LinkIn c l
+known-in : (c holder n : ℕ) (i : SideIs) (l : Link) → holder ≤ c → sideOf n ≡ i
+    → knownLink holder n i ≡ link-is.Known l → LinkIn c l
 known-in c holder n side-is.Unknown l h e q = let z : _≡_ {A = ℕ} 0 1 = cc in absurd (omega arith)
 known-in c holder n (side-is.Known s) l h e q =
     by-bool (eqb holder 0 && not (eqb n 0))
@@ -131,7 +132,8 @@ module _ {t : List ℕ} {c : ℕ} (w : Whole t c) where
   fire-done rule holder side = rw (sized-slots (w .sized)) (plan-done holder side (ruleOf rule) (linkOf c holder side) refl)
 
   -- with numbers that name a rule and a link, it is that rule at that link
-  pub plan-is : (rule holder side : ℕ) (r : Rule) (l : Link) → ruleOf rule ≡ rule-is.Known r → linkOf c holder side ≡ link-is.Known l
+  pub plan-is : (rule holder side : ℕ) (r : Rule) (l : Link) → ruleOf rule ≡ rule-is.Known r
+      → linkOf c holder side ≡ link-is.Known l
       → firePlan t rule holder side ≡ aimed t c r l
   unfolding firePlan
   plan-is rule holder side r l a b = rw (sized-slots (w .sized), a, b) refl

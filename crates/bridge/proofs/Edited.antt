@@ -115,7 +115,8 @@ pub record Rewritten (t t′ : List ℕ) (c : ℕ) (es : List Edit) : Type 0 whe
   pub root : word t′ rootWord ≡ rooted es (word t rootWord)
   pub head : (i : ℕ) → 1 ≤ i → i < 4 → word t′ i ≡ word t i
 
-pub rewritten : {t : List ℕ} {c : ℕ} → Sized t c → (es : List Edit) → Inside c es → Rewritten t (written t (writes es)) c es
+pub rewritten : {t : List ℕ} {c : ℕ} → Sized t c → (es : List Edit) → Inside c es
+    → Rewritten t (written t (writes es)) c es
 unfolding written writes edited rooted
 rewritten z [] i = record { sized = z; slots = λ k h. refl; root = refl; head = λ i h l. refl }
 rewritten z (e ∷ es) i =

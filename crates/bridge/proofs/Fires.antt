@@ -102,7 +102,8 @@ module _ {t : List ℕ} {c : ℕ} (w : Whole t c) where
       (same-along r (p .way) rootLink T (p .tree) hangs-root refl (p .there)))
 
   -- a free holder: nothing is fired
-  pub free-holder : (r : Rule) (l : Link) → 1 ≤ l .holder → l .holder ≤ c → times (l .holder) T ≡ 0 → aim t c r l ≡ Refuse GuardFails
+  pub free-holder : (r : Rule) (l : Link) → 1 ≤ l .holder → l .holder ≤ c → times (l .holder) T ≡ 0
+      → aim t c r l ≡ Refuse GuardFails
   unfolding aim
   free-holder r l i j z =
       let b = w .sound .rest (l .holder) i j z in

@@ -111,7 +111,8 @@ module _ {t t′ : List ℕ} {c : ℕ} (S : Tree) where
     left-root = r .root ∙ in-rooted c S _ es i
 
 -- a tree that has none of the slots stays
-pub stays : {t t′ : List ℕ} {c : ℕ} (es : List Edit) → Rewritten t t′ c es → (x : ℕ) (X : Tree) → ((k : ℕ) → 1 ≤ times k X → Away k es)
+pub stays : {t t′ : List ℕ} {c : ℕ} (es : List Edit) → Rewritten t t′ c es → (x : ℕ) (X : Tree)
+    → ((k : ℕ) → 1 ≤ times k X → Away k es)
     → Spells t c x X → Spells t′ c x X
 stays {t} {t′} {c} es r x X away p =
     frame t t′ c x X (λ k h. r .slots k (first-slot t c x X p k h) ∙ edited-away k es _ (away k h)) p

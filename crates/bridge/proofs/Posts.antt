@@ -57,7 +57,8 @@ fit-leaf c key pieces state r =
 
 -- a way leads to the same link where the slots on it are the same
 along-same : (t t′ : List ℕ) (c : ℕ) (way : List Side) (l : Link) (T S : Tree) → Spells t c (word t (linkAt l)) T
-    → word t′ (linkAt l) ≡ word t (linkAt l) → ((k : ℕ) → 1 ≤ times k T → slotAt t′ k ≡ slotAt t k) → subtree way T ≡ some S
+    → word t′ (linkAt l) ≡ word t (linkAt l) → ((k : ℕ) → 1 ≤ times k T → slotAt t′ k ≡ slotAt t k)
+    → subtree way T ≡ some S
     → linkAlong t′ way l ≡ linkAlong t way l
 unfolding subtree linkAlong
 along-same t t′ c [] l T S p e h q = refl

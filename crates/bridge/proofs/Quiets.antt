@@ -64,7 +64,8 @@ relaxed t c x (node d a b l r) p =
 -- a guard that holds at the top of what hangs at a link holds on words
 module _ {t : List ℕ} {c : ℕ} (l : Link) where
   holds-two : (k : Kind) → hasThird k ≡ false → (s : Side) (dv du : Batch) (v u : Pair) (m n far : Tree)
-      → Hangs t c l (mk s dv v (mk s du u m n) far) → guard k v u u ≡ true → holdsAt t c (ruleOn k s) (word t (linkAt l)) ≡ true
+      → Hangs t c l (mk s dv v (mk s du u m n) far) → guard k v u u ≡ true
+      → holdsAt t c (ruleOn k s) (word t (linkAt l)) ≡ true
   unfolding holdsAt guardAt
   holds-two k e s dv du v u m n far h g =
       let a = look-v l s dv du v u m n far h in
@@ -119,7 +120,8 @@ pub record HoldsAt (t : List ℕ) (c : ℕ) (r : Rule) : Type 0 where
   pub most : slot ≤ c
   pub holds : holdsAt t c r slot ≡ true
 
-pub holds-there : {t : List ℕ} {c : ℕ} (l : Link) (T T′ : Tree) → Hangs t c l T → (way : List Side) (r : Rule) → fireAt way r T ≡ some T′
+pub holds-there : {t : List ℕ} {c : ℕ} (l : Link) (T T′ : Tree) → Hangs t c l T → (way : List Side) (r : Rule)
+    → fireAt way r T ≡ some T′
     → HoldsAt t c r
 holds-there {t} {c} l T T′ h way r e =
     let p = placed guard r way T T′ e in

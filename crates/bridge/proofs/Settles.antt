@@ -31,7 +31,8 @@ use Rattle.bridge.proofs.Keyed.{end-there, end-plugged, end-found, amen
 use Rattle.bridge.proofs.Amends.{amend-below}
 use Rattle.bridge.proofs.Fires.{hangs-root, new-header}
 
-pub settles : {t t₁ t₂ : List ℕ} {c : ℕ} {T T′ : Tree} → headerOk c t ≡ true → Below t t₁ c rootLink T T′ → Settled t₁ t₂ c T′ → Spelled t₂ c T′
+pub settles : {t t₁ t₂ : List ℕ} {c : ℕ} {T T′ : Tree} → headerOk c t ≡ true → Below t t₁ c rootLink T T′
+    → Settled t₁ t₂ c T′ → Spelled t₂ c T′
 settles {t} {t₁} {t₂} {c} {T} {T′} e b s =
     let top : word t₂ rootWord ≡ b .top = s .root ∙ b .root in
     let s₂ : Sound t₂ c = record {

@@ -34,12 +34,14 @@ same-none j k ne = simp (ne-eqb j k ne)
 
 -- one step further down
 further : (t : List ℕ) (l : Link) (goal : Link) (s : Side) (d : Batch) (a b : ℕ) (left right : Tree)
-    → Leads t (record { holder = word t (linkAt l); side = s }) (sonOf s left right) goal → Leads t l (node d a b left right) goal
+    → Leads t (record { holder = word t (linkAt l); side = s }) (sonOf s left right) goal
+    → Leads t l (node d a b left right) goal
 unfolding subtree linkAlong
 further t l goal Left d a b left right w = record { way = Left ∷ w .way; tree = w .tree; there = w .there; ends = w .ends }
 further t l goal Right d a b left right w = record { way = Right ∷ w .way; tree = w .tree; there = w .there; ends = w .ends }
 
-pub leads : (t : List ℕ) (c : ℕ) (k : ℕ) (s : Side) (l : Link) (T : Tree) → Spells t c (word t (linkAt l)) T → 1 ≤ times k T
+pub leads : (t : List ℕ) (c : ℕ) (k : ℕ) (s : Side) (l : Link) (T : Tree) → Spells t c (word t (linkAt l)) T
+    → 1 ≤ times k T
     → Leads t l T (record { holder = k; side = s })
 unfolding Spells times linkAlong
 leads t c k s l leaf p h = absurd (omega arith)

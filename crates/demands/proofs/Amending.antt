@@ -38,7 +38,8 @@ use Rattle.demands.proofs.Entries.{mapEntry, amended-entries}
 use Rattle.demands.proofs.Answers.{gate-range, lookup-is}
 
 -- a refusal leaves both as they were
-pub both-refuse : {t : List ℕ} {c : ℕ} → Whole t c → (why : Refusal) → AsLedger (refused t why) c (kept (ledgerOf t c) why)
+pub both-refuse : {t : List ℕ} {c : ℕ} → Whole t c → (why : Refusal)
+    → AsLedger (refused t why) c (kept (ledgerOf t c) why)
 both-refuse w why = record { answer = refl; whole = w; ledger = refl }
 
 module _ {t : List ℕ} {c : ℕ} (w : Whole t c) (key pieces state : ℕ) (ok : recordOk key pieces state ≡ true) where

@@ -33,7 +33,8 @@ use Rattle.demands.proofs.Walks.{walk-tree}
 use Rattle.demands.proofs.Entries.{mapEntry, seek-lookup, total-sum}
 
 -- what a search finds stands in its slot
-pub seek-slot : (t : List ℕ) (c key x : ℕ) (T : Tree) → Spells t c x T → (d : Batch) → seek key T ≡ some d → d ≡ batchAt t (d .slot)
+pub seek-slot : (t : List ℕ) (c key x : ℕ) (T : Tree) → Spells t c x T → (d : Batch) → seek key T ≡ some d
+    → d ≡ batchAt t (d .slot)
 unfolding Spells seek
 seek-slot t c key x leaf p d e = let z : _≡_ {A = ℕ} 0 1 = cc in absurd (omega arith)
 seek-slot t c key x (node b h g l r) p d e =
@@ -45,7 +46,8 @@ seek-slot t c key x (node b h g l r) p d e =
     (λ f. seek-slot t c key (slotAt t x .right) r (p .right) d (simp (q, f) at e)))
 
 -- a gate whose arguments are out of range
-pub gate-range : {t : List ℕ} {c : ℕ} (good : Bool) (whole : ℕ → Bool) → Sized t c → good ≡ false → gate t good whole ≡ Shut OutOfRange
+pub gate-range : {t : List ℕ} {c : ℕ} (good : Bool) (whole : ℕ → Bool) → Sized t c → good ≡ false
+    → gate t good whole ≡ Shut OutOfRange
 unfolding gate
 gate-range good whole z g = rw (sized-slots z, g) refl
 

@@ -19,7 +19,8 @@ use Rattle.ledger.proofs.Lists.{orElse, lookup-append, sum-append, replace-left
 use Rattle.demands.specs.Ledgers.{entryOf, entriesOf}
 
 -- a node's records are those on its left, its own, and those on its right
-pub entries-node : (d : Batch) (a b : ℕ) (l r : Tree) → entriesOf (node d a b l r) ≡ entriesOf l ++ (entryOf d ∷ entriesOf r)
+pub entries-node : (d : Batch) (a b : ℕ) (l r : Tree)
+    → entriesOf (node d a b l r) ≡ entriesOf l ++ (entryOf d ∷ entriesOf r)
 unfolding inOrder
 entries-node d a b l r = map-append entryOf (inOrder l) (d ∷ inOrder r)
 
@@ -30,7 +31,8 @@ lookup-node key d a b l r = rw (entries-node d a b l r) (lookup-append key (entr
 
 -- a key beyond all of a tree's is not in it
 module _ (key : ℕ) where
-  absent : (d : Batch) (a b : ℕ) (l r : Tree) → lookup key (entriesOf l) ≡ none → (key ≡ d .key → ⊥) → lookup key (entriesOf r) ≡ none
+  absent : (d : Batch) (a b : ℕ) (l r : Tree) → lookup key (entriesOf l) ≡ none → (key ≡ d .key → ⊥)
+      → lookup key (entriesOf r) ≡ none
       → lookup key (entriesOf (node d a b l r)) ≡ none
   absent d a b l r p ne q = lookup-node key d a b l r ∙ rw (p, ne-eqb key (d .key) ne, q) refl
 
@@ -104,10 +106,12 @@ module _ (key pieces state : ℕ) where
           ∙ sym (rw (entries-node d a b l r) (replace-right new (entriesOf l) (entryOf d ∷ entriesOf r) (below-none key (d .key) l h (omega arith))
           ∙ unfold replace in rw (eq-eqb key (d .key) e, e) refl))
 
-      after : (d : Batch) (r : Tree) → eqb key (d .key) ≡ false → lookup key (entriesOf r) ≡ none → lookup key (entryOf d ∷ entriesOf r) ≡ none
+      after : (d : Batch) (r : Tree) → eqb key (d .key) ≡ false → lookup key (entriesOf r) ≡ none
+          → lookup key (entryOf d ∷ entriesOf r) ≡ none
       after d r e h = unfold lookup in rw (e, h) refl
 
-      past : (d : Batch) (r : Tree) → eqb key (d .key) ≡ false → replace new (entryOf d ∷ entriesOf r) ≡ entryOf d ∷ replace new (entriesOf r)
+      past : (d : Batch) (r : Tree) → eqb key (d .key) ≡ false
+          → replace new (entryOf d ∷ entriesOf r) ≡ entryOf d ∷ replace new (entriesOf r)
       past d r e = unfold replace in rw e refl
 
 pub entries-size : (T : Tree) → length (entriesOf T) ≡ size T
@@ -130,7 +134,8 @@ below-before key m (node d a b l r) h i =
 
 -- THE GROWN TREE has the list with the new record inserted
 module _ (new : Batch) where
-  pub grown-entries : (T : Tree) → seek (new .key) T ≡ none → Ordered T → entriesOf (grown new T) ≡ insert (entryOf new) (entriesOf T)
+  pub grown-entries : (T : Tree) → seek (new .key) T ≡ none → Ordered T
+      → entriesOf (grown new T) ≡ insert (entryOf new) (entriesOf T)
   unfolding Ordered atKey
   grown-entries leaf e h = unfold inOrder insert in refl
   grown-entries (node d a b l r) e h =
@@ -143,5 +148,6 @@ module _ (new : Batch) where
       (below-before (new .key) (d .key) l (h .0) (omega (arith, ltb-false (new .key) (d .key) f)))
       ∙ ap (λ (x : List Entry). entriesOf l ++ x) (behind d r f))))))
     where
-      behind : (d : Batch) (r : Tree) → ltb (new .key) (d .key) ≡ false → insert (entryOf new) (entryOf d ∷ entriesOf r) ≡ entryOf d ∷ insert (entryOf new) (entriesOf r)
+      behind : (d : Batch) (r : Tree) → ltb (new .key) (d .key) ≡ false
+          → insert (entryOf new) (entryOf d ∷ entriesOf r) ≡ entryOf d ∷ insert (entryOf new) (entriesOf r)
       behind d r f = unfold insert in rw f refl

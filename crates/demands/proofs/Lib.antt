@@ -11,3 +11,4 @@ pub mod Amending
 pub mod Posting
 pub mod Firing
 pub mod Ranks
+pub mod Teeth

@@ -36,7 +36,8 @@ pub record Refused (x : Call) (t : List ℕ) : Type 0 where
   pub words : tableOf x t ≡ t
   pub listed : among (codeOf why) (codes x) ≡ true
 
-says : (x : Call) (t : List ℕ) (d : Done) → d ≡ record { answer = answerOf x t; words = tableOf x t } → Answered (codes x) t d
+says : (x : Call) (t : List ℕ) (d : Done) → d ≡ record { answer = answerOf x t; words = tableOf x t }
+    → Answered (codes x) t d
     → (d .answer .code ≡ 0 → ⊥) → Refused x t
 says x t d e (accepts z) ne = absurd (ne z)
 says x t d e (refuses why l) ne =

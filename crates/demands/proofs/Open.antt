@@ -52,7 +52,8 @@ pub record Sounds (t : List ℕ) : Type 0 where
   pub slots : ℕ
   pub whole : Whole t slots
 
-checked : (t : List ℕ) (g : Gate) → soundGate t true ≡ g → answering g (λ c. accepted (word t changeWord) 0 0 0) .code ≡ 0 → Sounds t
+checked : (t : List ℕ) (g : Gate) → soundGate t true ≡ g
+    → answering g (λ c. accepted (word t changeWord) 0 0 0) .code ≡ 0 → Sounds t
 checked t (Shut why) q e = absurd (some-code why e)
 checked t (Open c) q e = record { slots = c; whole = opened t true c refl q }
 

@@ -68,7 +68,8 @@ only t a = record { answer = a; words = t }
 
 module _ (t listed : List ℕ) (good : Bool) (whole : ℕ → Bool) (F : Gate → Done) where
   -- a gate that is shut has the code 1, 2 or 3
-  by-gate : ((why : Refusal) → F (Shut why) ≡ refused t why) → among 1 listed ≡ true → (good ≡ false → among 2 listed ≡ true)
+  by-gate : ((why : Refusal) → F (Shut why) ≡ refused t why) → among 1 listed ≡ true
+      → (good ≡ false → among 2 listed ≡ true)
       → ((c : ℕ) → whole c ≡ false → among 3 listed ≡ true) → ((c : ℕ) → Answered listed t (F (Open c)))
       → Answered listed t (F (gate t good whole))
   unfolding gate
@@ -90,7 +91,8 @@ module _ (t : List ℕ) where
       by-gate t (codes Start) true (λ c. true) (started t) (λ why. refl) refl (λ e. neither refl e) (λ c e. neither refl e) (λ c. accepts refl)
 
   -- calls that want a sound table and have no argument to test
-  pub whole-answered : (f : ℕ → Answer) → ((c : ℕ) → f c .code ≡ 0) → Answered (1 ∷ 3 ∷ []) t (only t (answering (soundGate t true) f))
+  pub whole-answered : (f : ℕ → Answer) → ((c : ℕ) → f c .code ≡ 0)
+      → Answered (1 ∷ 3 ∷ []) t (only t (answering (soundGate t true) f))
   whole-answered f h =
       by-gate t (1 ∷ 3 ∷ []) true (λ c. soundTable t c) (λ g. only t (answering g f)) (λ why. refl) refl (λ e. neither refl e) (λ c e. refl) (λ c. accepts (h c))
 
