@@ -1,4 +1,4 @@
-// M1 to M4 and M6 of document 01, run over the code: each line is the five numbers of a call, or the words of a table.
+// M1 to M4 and M6 of document 01, run over the code: each line is the five numbers of a call, or the words of a table; after a tidy the true height too.
 use scope::Answer;
 
 fn number(n: u64) {
@@ -64,6 +64,7 @@ fn m2() {
     pour(&mut t, 480);
     pour(&mut t, 510);
     say(index::tidy(&mut t, 10));
+    say(sums::height(&t));
     show(&t);
 }
 
@@ -80,6 +81,7 @@ fn m3() {
     pour_four(&mut t);
     say(index::worth(&t));
     say(index::tidy(&mut t, 10));
+    say(sums::height(&t));
     show(&t);
 }
 
