@@ -32,7 +32,7 @@ fn carry_out(t: &mut [u32], command: Command) -> Reply
         Command::Fire { rule, holder, side } => Reply::Say(index::fire(t, rule, holder, side)),
         Command::Tidy { budget } => Reply::Say(index::tidy(t, budget)),
         Command::List => Reply::List,
-        Command::Unreadable => Reply::Say(words::refuse(Refusal::Unreadable)),
+        Command::Unreadable => Reply::Say(gate::refuse(Refusal::Unreadable)),
     }
 }
 

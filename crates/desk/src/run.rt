@@ -89,7 +89,7 @@ fn read_input(buf: &mut [u8]) -> Got
 // An input that is too long or cannot be read is one unreadable line.
 fn refuse_all() {
     let mut out = [0u8; 133];
-    let n = printing::put_answer(&mut out, 0, words::refuse(Refusal::Unreadable));
+    let n = printing::put_answer(&mut out, 0, gate::refuse(Refusal::Unreadable));
     io::write_all(STDOUT_FILENO, &out[..n]);
 }
 

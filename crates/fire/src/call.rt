@@ -20,7 +20,7 @@ pub fn aim_at(t: &[u32], c: usize, r: Rule, link: Link) -> Firing
     requires { ⌜ Sized (now t) c × (link .holder ≤ c) ⌝ }
     ensures { λ f. ⌜ Aimed c (aimed (now (t .entry)) c r link) f ⌝ }
 {
-    if words::header_ok(c, t) {
+    if gate::header_ok(c, t) {
         rules::aim(t, c, r, link)
     } else {
         Firing::Refuse(Refusal::Damaged)
@@ -45,16 +45,16 @@ pub fn plan_in(t: &[u32], c: usize, rule: u32, holder: u32, side: u32) -> Firing
 pub fn fire(t: &mut [u32], rule: u32, holder: u32, side: u32) -> Answer
     ensures { λ a. ⌜ (a ≡ fireAnswer (now (t .entry)) rule holder side) × (now (t .exit) ≡ fireTable (now (t .entry)) rule holder side) ⌝ }
 {
-    match words::capacity(t.len()) {
-        SlotsIs::Outside => words::refuse(Refusal::WrongLength),
+    match gate::capacity(t.len()) {
+        SlotsIs::Outside => gate::refuse(Refusal::WrongLength),
         SlotsIs::Within(s) => {
             let c = s.count;
             match plan_in(t, c, rule, holder, side) {
-                Firing::Refuse(why) => words::refuse(why),
+                Firing::Refuse(why) => gate::refuse(why),
                 Firing::Fire(r, n) => {
                     let change = words::change(t);
                     act(t, c, r, n);
-                    words::accept(words::long(change), 0, 0, 0)
+                    gate::accept(words::long(change), 0, 0, 0)
                 }
             }
         }

@@ -46,7 +46,7 @@ fn answer(t: &[u32]) -> Answer
 {
     let count = words::size(words::records(t));
     let root = words::size(words::root(t));
-    words::accept(words::long(words::change(t)), count, root, 0)
+    gate::accept(words::long(words::change(t)), count, root, 0)
 }
 
 // Puts all that list prints of a sound table.
@@ -64,7 +64,7 @@ pub fn put_list(t: &[u32], out: &mut [u8], at: usize) -> usize
     ensures { λ n. ⌜ PutIn (now (out .entry)) at (listText (now (t .entry))) (now (out .exit)) n (listRoom (length (now (t .entry)))) ⌝ }
 {
     match sound::enter_sound(t, true) {
-        Gate::Shut(why) => printing::put_answer(out, at, words::refuse(why)),
+        Gate::Shut(why) => printing::put_answer(out, at, gate::refuse(why)),
         Gate::Open(c) => put_listed(t, c, out, at),
     }
 }

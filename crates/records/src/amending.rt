@@ -37,7 +37,7 @@ pub fn amending_at(t: &[u32], c: usize, w: Walk) -> Amending
 pub fn plan_amend(t: &[u32], key: u32, pieces: u32, state: u32) -> Amending
     ensures { λ r. ⌜ AmendPlanned (now (t .entry)) (amendPlan (now (t .entry)) key pieces state) r ⌝ }
 {
-    match words::enter(t, record_ok(key, pieces, state)) {
+    match gate::enter(t, record_ok(key, pieces, state)) {
         Gate::Shut(why) => Amending::Refuse(why),
         Gate::Open(c) => amending_at(t, c, walk::search(t, c, key)),
     }
@@ -69,7 +69,7 @@ pub fn amend(t: &mut [u32], key: u32, pieces: u32, state: u32) -> Answer
     ensures { λ r. ⌜ (r ≡ amendAnswer (now (t .entry)) key pieces state) × (now (t .exit) ≡ amendTable (now (t .entry)) key pieces state) ⌝ }
 {
     match plan_amend(t, key, pieces, state) {
-        Amending::Refuse(why) => words::refuse(why),
+        Amending::Refuse(why) => gate::refuse(why),
         Amending::Change(slot) => change_record(t, slot, pieces, state),
     }
 }

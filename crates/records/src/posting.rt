@@ -21,7 +21,7 @@ ghost use Rattle.records.specs.Planned.{Free, Hangable, Planned};
 pub fn record_ok(key: u32, pieces: u32, state: u32) -> bool
     ensures { λ r. ⌜ r ≡ recordOk key pieces state ⌝ }
 {
-    (key != 0) & words::pieces_ok(pieces) & words::state_ok(state)
+    (key != 0) & gate::pieces_ok(pieces) & gate::state_ok(state)
 }
 
 // The lowest free slot, 0 for none.
@@ -47,7 +47,7 @@ pub fn hang_at(t: &[u32], c: usize, link: Link, k: usize) -> Posting
     if k == 0 {
         return Posting::Refuse(Refusal::NoFreeSlot);
     }
-    if words::blank(words::slot_at(t, k)) & (words::records(t) < c) {
+    if gate::blank(words::slot_at(t, k)) & (words::records(t) < c) {
         if words::change(t) < Answer::LAST_CHANGE {
             Posting::Hang { slot: k, link }
         } else {
@@ -74,7 +74,7 @@ pub fn posting_at(t: &[u32], c: usize, w: Walk) -> Posting
 pub fn plan_post(t: &[u32], key: u32, pieces: u32, state: u32) -> Posting
     ensures { λ r. ⌜ Planned (now (t .entry)) (postPlan (now (t .entry)) key pieces state) r ⌝ }
 {
-    match words::enter(t, record_ok(key, pieces, state)) {
+    match gate::enter(t, record_ok(key, pieces, state)) {
         Gate::Shut(why) => Posting::Refuse(why),
         Gate::Open(c) => posting_at(t, c, walk::search(t, c, key)),
     }
@@ -113,7 +113,7 @@ pub fn post(t: &mut [u32], key: u32, pieces: u32, state: u32) -> Answer
     ensures { λ r. ⌜ (r ≡ postAnswer (now (t .entry)) key pieces state) × (now (t .exit) ≡ postTable (now (t .entry)) key pieces state) ⌝ }
 {
     match plan_post(t, key, pieces, state) {
-        Posting::Refuse(why) => words::refuse(why),
+        Posting::Refuse(why) => gate::refuse(why),
         Posting::Hang { slot, link } => hang(t, slot, link, leaf(key, pieces, state)),
     }
 }

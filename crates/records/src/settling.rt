@@ -12,7 +12,7 @@ pub fn next_change(t: &mut [u32], before: u32, slot: usize) -> Answer
 {
     let change = before + 1;
     words::put_change(t, change);
-    words::accept(words::long(change), words::size(slot), 0, 0)
+    gate::accept(words::long(change), words::size(slot), 0, 0)
 }
 
 // So many records, and one change more than before.

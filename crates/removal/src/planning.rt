@@ -26,7 +26,7 @@ pub fn leftmost(t: &[u32], c: usize, most: usize, slot: usize, link: Link) -> Le
             break Leftmost::Broken;
         }
         let s = words::slot_at(t, at);
-        if words::fit(c, s) {
+        if gate::fit(c, s) {
             let next = words::wide(s.left);
             if next == 0 {
                 break Leftmost::Is {
@@ -133,7 +133,7 @@ pub fn dropping_at(t: &[u32], c: usize, w: Walk) -> Dropping
 pub fn plan_drop(t: &[u32], key: u32) -> Dropping
     ensures { λ r. ⌜ Planned (now (t .entry)) (dropPlan (now (t .entry)) key) r ⌝ }
 {
-    match words::enter(t, key != 0) {
+    match gate::enter(t, key != 0) {
         Gate::Shut(why) => Dropping::Refuse(why),
         Gate::Open(c) => dropping_at(t, c, walk::search(t, c, key)),
     }

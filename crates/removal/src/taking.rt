@@ -96,7 +96,7 @@ pub fn drop(t: &mut [u32], key: u32) -> Answer
     ensures { λ r. ⌜ (r ≡ dropAnswer (now (t .entry)) key) × (now (t .exit) ≡ dropTable (now (t .entry)) key) ⌝ }
 {
     match plan_drop(t, key) {
-        Dropping::Refuse(why) => words::refuse(why),
+        Dropping::Refuse(why) => gate::refuse(why),
         Dropping::Lift { slot, link, son } => lift(t, slot, link, son),
         Dropping::Replace { slot, least, link } => replace(t, slot, least, link),
     }

@@ -30,7 +30,7 @@ pub fn take(t: &[u32], c: usize, k: usize, a: usize, b: usize, e: usize) -> Take
         return Taken::Not(Refusal::GuardFails);
     }
     let s = words::slot_at(t, k);
-    if words::fit(c, s) & (k != a) & (k != b) & (k != e) {
+    if gate::fit(c, s) & (k != a) & (k != b) & (k != e) {
         Taken::Got(s)
     } else {
         Taken::Not(Refusal::Damaged)
@@ -181,7 +181,7 @@ pub fn aim(t: &[u32], c: usize, r: Rule, link: Link) -> Firing
     if s.state == State::FREE {
         return Firing::Refuse(Refusal::GuardFails);
     }
-    if words::fit(c, s) {
+    if gate::fit(c, s) {
         aim_v(t, c, r, link)
     } else {
         Firing::Refuse(Refusal::Damaged)

@@ -22,7 +22,7 @@ pub fn in_place(c: usize, s: Slot, low: u64, high: u64) -> bool
     ensures { λ r. ⌜ r ≡ inPlace c s low high ⌝ }
 {
     let key = words::long(s.key);
-    words::fit(c, s) & (low < key) & (key < high)
+    gate::fit(c, s) & (low < key) & (key < high)
 }
 
 // Tests slot x and marks it: it must not have been reached before.
@@ -78,7 +78,7 @@ pub fn settled(t: &[u32], m: &[u64; 64], k: usize) -> bool
     requires { ⌜ InTable (now t) k × (k ≤ 4095) ⌝ }
     ensures { λ r. ⌜ r ≡ settledAt (now (t .entry)) (now (m .entry)) k ⌝ }
 {
-    marks::marked(m, k) | words::blank(words::slot_at(t, k))
+    marks::marked(m, k) | gate::blank(words::slot_at(t, k))
 }
 
 // Whether every slot that was not reached is eight zeros.
@@ -102,7 +102,7 @@ pub fn sound(t: &[u32], c: usize) -> bool
     requires { ⌜ Sized (now t) c ⌝ }
     ensures { λ r. ⌜ r ≡ soundTable (now (t .entry)) c ⌝ }
 {
-    if words::header_ok(c, t) {
+    if gate::header_ok(c, t) {
         let mut m = [0u64; 64];
         let n = words::records(t);
         let root = words::root(t);
@@ -119,7 +119,7 @@ pub fn sound(t: &[u32], c: usize) -> bool
 pub fn enter_sound(t: &[u32], in_range: bool) -> Gate
     ensures { λ r. ⌜ r ≡ soundGate (now (t .entry)) in_range ⌝ }
 {
-    match words::enter(t, in_range) {
+    match gate::enter(t, in_range) {
         Gate::Shut(why) => Gate::Shut(why),
         Gate::Open(c) => {
             if sound(t, c) {
@@ -136,7 +136,7 @@ pub fn told(t: &[u32], value: u64) -> Answer
     requires { ⌜ Headed (now t) ⌝ }
     ensures { λ r. ⌜ r ≡ accepted (word (now (t .entry)) changeWord) value 0 0 ⌝ }
 {
-    words::accept(words::long(words::change(t)), value, 0, 0)
+    gate::accept(words::long(words::change(t)), value, 0, 0)
 }
 
 // check: whether the table is sound.
@@ -144,7 +144,7 @@ pub fn check(t: &[u32]) -> Answer
     ensures { λ r. ⌜ r ≡ checkAnswer (now (t .entry)) ⌝ }
 {
     match enter_sound(t, true) {
-        Gate::Shut(why) => words::refuse(why),
+        Gate::Shut(why) => gate::refuse(why),
         Gate::Open(_) => told(t, 0),
     }
 }

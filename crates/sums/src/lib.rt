@@ -67,7 +67,7 @@ pub fn height(t: &[u32]) -> Answer
     ensures { λ r. ⌜ r ≡ heightAnswer (now (t .entry)) ⌝ }
 {
     match sound::enter_sound(t, true) {
-        Gate::Shut(why) => words::refuse(why),
+        Gate::Shut(why) => gate::refuse(why),
         Gate::Open(c) => sound::told(t, words::size(height_in(t, c))),
     }
 }
@@ -120,7 +120,7 @@ pub fn total(t: &[u32], key: u32) -> Answer
     ensures { λ r. ⌜ r ≡ totalAnswer (now (t .entry)) key ⌝ }
 {
     match sound::enter_sound(t, true) {
-        Gate::Shut(why) => words::refuse(why),
+        Gate::Shut(why) => gate::refuse(why),
         Gate::Open(c) => sound::told(t, total_in(t, c, key)),
     }
 }
@@ -173,7 +173,7 @@ pub fn ranked(t: &[u32], found: Rank) -> Answer
 {
     match found {
         Rank::At(slot) => sound::told(t, words::size(slot)),
-        Rank::Past(_) => words::refuse(Refusal::KeyAbsent),
+        Rank::Past(_) => gate::refuse(Refusal::KeyAbsent),
     }
 }
 
@@ -182,7 +182,7 @@ pub fn rank(t: &[u32], r: u32) -> Answer
     ensures { λ a. ⌜ a ≡ rankAnswer (now (t .entry)) r ⌝ }
 {
     match sound::enter_sound(t, r != 0) {
-        Gate::Shut(why) => words::refuse(why),
+        Gate::Shut(why) => gate::refuse(why),
         Gate::Open(c) => ranked(t, rank_in(t, c, words::wide(r))),
     }
 }

@@ -10,12 +10,12 @@ pub fn tidy(t: &mut [u32], budget: u32) -> Answer
     ensures { λ a. ⌜ (a ≡ tidyAnswer (now (t .entry)) budget) × (now (t .exit) ≡ tidyTable (now (t .entry)) budget) ⌝ }
 {
     match sound::enter_sound(t, true) {
-        Gate::Shut(why) => words::refuse(why),
+        Gate::Shut(why) => gate::refuse(why),
         Gate::Open(c) => {
             let change = words::long(words::change(t));
             let made = words::long(run(t, c, budget));
             let more = rest(t, c);
-            words::accept(change, made, more, 0)
+            gate::accept(change, made, more, 0)
         }
     }
 }

@@ -19,7 +19,7 @@ ghost use Rattle.walk.specs.Walked.{Walked, Inside};
 pub fn judge(c: usize, key: u32, s: Slot) -> Step
     ensures { λ r. ⌜ r ≡ stepOf c key s ⌝ }
 {
-    if words::fit(c, s) {
+    if gate::fit(c, s) {
         if key == s.key {
             return Step::Here;
         }
@@ -75,11 +75,11 @@ pub fn found(t: &[u32], c: usize, w: Walk) -> Answer
     ensures { λ r. ⌜ r ≡ foundIn (now (t .entry)) w ⌝ }
 {
     match w {
-        Walk::Damage => words::refuse(Refusal::Damaged),
-        Walk::Miss { .. } => words::refuse(Refusal::KeyAbsent),
+        Walk::Damage => gate::refuse(Refusal::Damaged),
+        Walk::Miss { .. } => gate::refuse(Refusal::KeyAbsent),
         Walk::Hit { slot, seen, .. } => {
             let s = words::slot_at(t, slot);
-            words::accept(
+            gate::accept(
                 words::long(words::change(t)),
                 words::long(s.pieces),
                 words::size(seen),
@@ -93,8 +93,8 @@ pub fn found(t: &[u32], c: usize, w: Walk) -> Answer
 pub fn find(t: &[u32], key: u32) -> Answer
     ensures { λ r. ⌜ r ≡ findAnswer (now (t .entry)) key ⌝ }
 {
-    match words::enter(t, key != 0) {
-        Gate::Shut(why) => words::refuse(why),
+    match gate::enter(t, key != 0) {
+        Gate::Shut(why) => gate::refuse(why),
         Gate::Open(c) => found(t, c, search(t, c, key)),
     }
 }
@@ -114,11 +114,11 @@ pub fn clear(t: &mut [u32])
 pub fn start(t: &mut [u32]) -> Answer
     ensures { λ r. ⌜ (r ≡ startAnswer (now (t .entry))) × (now (t .exit) ≡ startTable (now (t .entry))) ⌝ }
 {
-    match words::capacity(t.len()) {
-        SlotsIs::Outside => words::refuse(Refusal::WrongLength),
+    match gate::capacity(t.len()) {
+        SlotsIs::Outside => gate::refuse(Refusal::WrongLength),
         SlotsIs::Within(_) => {
             clear(t);
-            words::accept(0, 0, 0, 0)
+            gate::accept(0, 0, 0, 0)
         }
     }
 }

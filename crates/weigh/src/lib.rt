@@ -120,7 +120,7 @@ pub fn worth(t: &[u32]) -> Answer
     ensures { λ r. ⌜ r ≡ worthAnswer (now (t .entry)) ⌝ }
 {
     match sound::enter_sound(t, true) {
-        Gate::Shut(why) => words::refuse(why),
+        Gate::Shut(why) => gate::refuse(why),
         Gate::Open(c) => sound::told(t, worth_in(t, c)),
     }
 }

@@ -1,13 +1,7 @@
-// Reading and writing the lent words: the only code that knows where a word stands and what number a code has.
-pub mod call;
+// Reading and writing the lent words: the only code that knows where a word stands.
 pub mod read;
-pub mod tests;
 pub mod write;
 
-pub use call::accept;
-pub use call::capacity;
-pub use call::enter;
-pub use call::refuse;
 pub use read::change;
 pub use read::link_at;
 pub use read::link_word;
@@ -22,11 +16,7 @@ pub use read::son;
 pub use read::son_word;
 pub use read::state_at;
 pub use read::wide;
-pub use tests::blank;
-pub use tests::fit;
-pub use tests::header_ok;
-pub use tests::pieces_ok;
-pub use tests::state_ok;
+pub use read::zero;
 pub use write::put_change;
 pub use write::put_link;
 pub use write::put_link_word;

@@ -5,7 +5,7 @@ use scope::Slot;
 ghost use mathlib.Core.Path.{_≡_};
 ghost use Prim.Native.Nat.{_≤_, _<_};
 ghost use lib.ListN.{length};
-ghost use Rattle.scope.specs.Table.{word, rootWord, countWord, changeWord, slotAt, son, register, linkAt, registerAt, InTable};
+ghost use Rattle.scope.specs.Table.{word, rootWord, countWord, changeWord, zeroWord, slotAt, son, register, linkAt, registerAt, InTable};
 ghost use Rattle.words.specs.Ready.{Headed};
 
 // A word as an index.
@@ -51,6 +51,14 @@ pub fn change(t: &[u32]) -> u32
     ensures { λ r. ⌜ r ≡ word (now (t .entry)) changeWord ⌝ }
 {
     t[2]
+}
+
+// The header's last word, which is 0 in a good one.
+pub fn zero(t: &[u32]) -> u32
+    requires { ⌜ Headed (now t) ⌝ }
+    ensures { λ r. ⌜ r ≡ word (now (t .entry)) zeroWord ⌝ }
+{
+    t[3]
 }
 
 // A slot by value.

@@ -1,8 +1,8 @@
--- `words::call::refuse` meets its contract. Assumes nothing.
+-- `gate::call::refuse` meets its contract. Assumes nothing.
 use mathlib.Core.Path.{sym}
 use borrow.Author.Needs.{needs}
-use Rattle.words.proofs.call.refuse.Statement.{statement}
-use Rattle.words.proofs.call.refuse.Tie as tie
+use Rattle.gate.proofs.call.refuse.Statement.{statement}
+use Rattle.gate.proofs.call.refuse.Tie as tie
 
 code-requires : tie.Need-code-requires
 code-requires c κs = search needs

@@ -1,8 +1,8 @@
--- `words::tests::blank` meets its contract. Assumes nothing.
+-- `gate::tests::blank` meets its contract. Assumes nothing.
 use borrow.Author.Needs.{needs}
 use Rattle.scope.specs.Fit.{blankSlot}
-use Rattle.words.proofs.tests.blank.Statement.{statement}
-use Rattle.words.proofs.tests.blank.Tie as tie
+use Rattle.gate.proofs.tests.blank.Statement.{statement}
+use Rattle.gate.proofs.tests.blank.Tie as tie
 
 returns : tie.Need-returns
 unfolding blankSlot

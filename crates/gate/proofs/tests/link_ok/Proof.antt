@@ -1,8 +1,8 @@
--- `words::tests::link_ok` meets its contract. Assumes nothing.
+-- `gate::tests::link_ok` meets its contract. Assumes nothing.
 use borrow.Author.Needs.{needs}
 use Rattle.scope.specs.Fit.{linkOk}
-use Rattle.words.proofs.tests.link_ok.Statement.{statement}
-use Rattle.words.proofs.tests.link_ok.Tie as tie
+use Rattle.gate.proofs.tests.link_ok.Statement.{statement}
+use Rattle.gate.proofs.tests.link_ok.Tie as tie
 
 returns : tie.Need-returns
 unfolding linkOk

@@ -1,7 +1,7 @@
--- `words::call::code` meets its contract. Assumes nothing.
+-- `gate::call::code` meets its contract. Assumes nothing.
 use borrow.Author.Needs.{needs}
-use Rattle.words.proofs.call.code.Statement.{statement}
-use Rattle.words.proofs.call.code.Tie as tie
+use Rattle.gate.proofs.call.code.Statement.{statement}
+use Rattle.gate.proofs.call.code.Tie as tie
 
 enum-told : tie.Need-enum-told
 enum-told c = search needs

@@ -1,12 +1,12 @@
--- `words::call::enter` meets its contract. Assumes nothing.
+-- `gate::call::enter` meets its contract. Assumes nothing.
 use mathlib.Core.Path.{_∙_, sym}
 use native.Mathlib.Omega.{arith}
 use denote.Ref.{now}
 use borrow.Author.Needs.{needs}
 use Rattle.words.proofs.Laws.{slots-room}
 use Rattle.scope.specs.Answers.{gate}
-use Rattle.words.proofs.call.enter.Statement.{statement}
-use Rattle.words.proofs.call.enter.Tie as tie
+use Rattle.gate.proofs.call.enter.Statement.{statement}
+use Rattle.gate.proofs.call.enter.Tie as tie
 
 capacity-requires : tie.Need-capacity-requires
 capacity-requires c κs = search needs

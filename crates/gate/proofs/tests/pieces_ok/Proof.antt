@@ -1,8 +1,8 @@
--- `words::tests::pieces_ok` meets its contract. Assumes nothing.
+-- `gate::tests::pieces_ok` meets its contract. Assumes nothing.
 use borrow.Author.Needs.{needs}
 use Rattle.scope.specs.Fit.{piecesOk}
-use Rattle.words.proofs.tests.pieces_ok.Statement.{statement}
-use Rattle.words.proofs.tests.pieces_ok.Tie as tie
+use Rattle.gate.proofs.tests.pieces_ok.Statement.{statement}
+use Rattle.gate.proofs.tests.pieces_ok.Tie as tie
 
 returns : tie.Need-returns
 unfolding piecesOk

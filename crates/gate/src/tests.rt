@@ -1,12 +1,13 @@
 // The tests of a slot and of the header.
-use crate::read::records;
-use crate::read::root;
 use scope::Height;
 use scope::Slot;
 use scope::State;
+use words::records;
+use words::root;
+use words::zero;
 ghost use mathlib.Core.Path.{_≡_};
 ghost use Rattle.scope.specs.Fit.{stateOk, piecesOk, linkOk, fitSlot, blankSlot, headerOk};
 ghost use Rattle.words.specs.Ready.{Headed};
 
 pub fn state_ok(s: u32) -> bool
     ensures { λ r. ⌜ r ≡ stateOk s ⌝ }
@@ -56,5 +57,5 @@ pub fn header_ok(c: usize, t: &[u32]) -> bool
     requires { ⌜ Headed (now t) ⌝ }
     ensures { λ r. ⌜ r ≡ headerOk c (now (t .entry)) ⌝ }
 {
-    (root(t) <= c) & (records(t) <= c) & (t[3] == 0)
+    (root(t) <= c) & (records(t) <= c) & (zero(t) == 0)
 }

@@ -1,9 +1,9 @@
--- `words::tests::fit` meets its contract. Assumes nothing.
+-- `gate::tests::fit` meets its contract. Assumes nothing.
 use mathlib.Core.Path.{sym}
 use borrow.Author.Needs.{needs}
 use Rattle.scope.specs.Fit.{fitSlot}
-use Rattle.words.proofs.tests.fit.Statement.{statement}
-use Rattle.words.proofs.tests.fit.Tie as tie
+use Rattle.gate.proofs.tests.fit.Statement.{statement}
+use Rattle.gate.proofs.tests.fit.Tie as tie
 
 state-ok-requires : tie.Need-state-ok-requires
 state-ok-requires c κs = search needs

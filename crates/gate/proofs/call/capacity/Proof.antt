@@ -1,10 +1,10 @@
--- `words::call::capacity` meets its contract. Assumes nothing.
+-- `gate::call::capacity` meets its contract. Assumes nothing.
 use mathlib.Core.Path.{sym}
 use borrow.Author.Tests.{eq-eqb, ne-eqb}
 use borrow.Author.Needs.{needs}
 use Rattle.scope.specs.Table.{slotsIn}
-use Rattle.words.proofs.call.capacity.Statement.{statement}
-use Rattle.words.proofs.call.capacity.Tie as tie
+use Rattle.gate.proofs.call.capacity.Statement.{statement}
+use Rattle.gate.proofs.call.capacity.Tie as tie
 
 of-requires : tie.Need-of-requires
 of-requires c κs = search needs

@@ -1,8 +1,8 @@
--- `words::tests::state_ok` meets its contract. Assumes nothing.
+-- `gate::tests::state_ok` meets its contract. Assumes nothing.
 use borrow.Author.Needs.{needs}
 use Rattle.scope.specs.Fit.{stateOk}
-use Rattle.words.proofs.tests.state_ok.Statement.{statement}
-use Rattle.words.proofs.tests.state_ok.Tie as tie
+use Rattle.gate.proofs.tests.state_ok.Statement.{statement}
+use Rattle.gate.proofs.tests.state_ok.Tie as tie
 
 returns : tie.Need-returns
 unfolding stateOk
