@@ -8,7 +8,7 @@ use Rattle.scope.specs.Answers.{refusal}
 use Rattle.scope.specs.Calls.{Call, answerOf, tableOf}
 use Rattle.scope.specs.Calls as calls
 use Rattle.scope.specs.declared.answer.Refusal.the-variants as refusals
-use Rattle.lines.specs.Text.{firstLine}
+use Rattle.fields.specs.Text.{firstLine}
 use Rattle.lines.specs.Form.{commandOf}
 use Rattle.lines.specs.declared.command.Command.{Command}
 use Rattle.lines.specs.declared.command.Command.the-variants.{Post, Amend, Drop, Find, Rank, Total, Worth, Fire, Tidy, List as Listing, Unreadable}

@@ -26,7 +26,7 @@ fn answer_all(input: &[u8], t: &mut [u32], out: &mut [u8])
     let mut at = 0;
     let mut from = 0;
     while from < input.len() {
-        let end = lines::line_end(input, from);
+        let end = fields::line_end(input, from);
         let p = room(out, at);
         at = step(t, &input[from..end], out, p);
         from = end + 1;

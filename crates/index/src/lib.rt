@@ -1,7 +1,7 @@
 // The eleven calls of the table, in one place: whoever uses the library uses this crate.
+pub use amending::amend;
 pub use fire::fire;
-pub use records::amend;
-pub use records::post;
+pub use posting::post;
 pub use removal::drop;
 pub use sound::check;
 pub use sums::rank;

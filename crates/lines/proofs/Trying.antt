@@ -2,9 +2,9 @@
 use Prim.Native.Nat.{ℕ}
 use mathlib.Core.Path.{_≡_, ap, _∙_}
 use mathlib.Core.List.{List, [], _∷_}
-use Rattle.lines.specs.Read.{begin, wordThen, fieldsThen, endThen}
+use Rattle.fields.specs.Read.{begin, wordThen, fieldsThen, endThen}
 use Rattle.lines.specs.Form.{Form, made, tried}
-use Rattle.lines.specs.declared.read.Read.{Read}
+use Rattle.fields.specs.declared.read.Read.{Read}
 use Rattle.lines.specs.declared.command.Command.{Command}
 
 -- one form more, in front of others

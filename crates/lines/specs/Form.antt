@@ -4,10 +4,10 @@ use mathlib.Core.Bool.{Bool, true, false, cond}
 use mathlib.Core.List.{List, [], _∷_, _++_}
 use lib.ListN.{length}
 use lib.Dec.{ltb}
-use Rattle.lines.specs.Text.{bytes}
-use Rattle.lines.specs.Read.{begin, wordThen, fieldsThen, endThen}
-use Rattle.lines.specs.declared.read.Read.{Read}
-use Rattle.lines.specs.declared.read.Read.the-variants.{Numbers, Other}
+use Rattle.fields.specs.Text.{bytes}
+use Rattle.fields.specs.Read.{begin, wordThen, fieldsThen, endThen}
+use Rattle.fields.specs.declared.read.Read.{Read}
+use Rattle.fields.specs.declared.read.Read.the-variants.{Numbers, Other}
 use Rattle.lines.specs.declared.command.Op.{Op}
 use Rattle.lines.specs.declared.command.Op.the-variants as op
 use Rattle.lines.specs.declared.command.Command.{Command}

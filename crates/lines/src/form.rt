@@ -2,14 +2,14 @@
 use crate::command::Command;
 use crate::command::Op;
 use crate::command::asked;
-use crate::read::Read;
-use crate::read::end;
-use crate::read::field;
-use crate::read::word;
+use fields::Read;
+use fields::end;
+use fields::field;
+use fields::word;
 ghost use mathlib.Core.Path.{_≡_};
 ghost use mathlib.Core.List.{[], _∷_};
 ghost use Rattle.lines.specs.Form.{form, made, tried, recordWords, three-forms, one-forms, plain-forms, commandOf};
-ghost use Rattle.lines.specs.Read.{begin, wordThen, fieldsThen};
+ghost use Rattle.fields.specs.Read.{begin, wordThen, fieldsThen};
 
 // The command of a line that was read; of one that is of another form, what else it is.
 fn made(op: Op, read: Read, other: Command) -> Command

@@ -1,10 +1,6 @@
 // The text that `stand` reads: a line of bytes read to the command that it is.
 pub mod command;
 pub mod form;
-pub mod input;
-pub mod number;
-pub mod read;
 
 pub use command::Command;
 pub use form::parse;
-pub use input::line_end;

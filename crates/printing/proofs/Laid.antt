@@ -7,7 +7,7 @@ use native.Mathlib.Nat.{add-zero}
 use native.Mathlib.Numerals.{add-one}
 use lib.ListN.{length, drop, set, getD, length-append, drop-of-length-le}
 use lib.Seq.{drop-cons}
-use Rattle.lines.specs.Decimal.{field, fields}
+use Rattle.fields.specs.Decimal.{field, fields}
 use Rattle.scope.specs.declared.slot.Slot.{Slot}
 use Rattle.printing.specs.Put.{laid, Put, PutIn}
 use Rattle.printing.specs.Line.{newline, startWords, endWords, recordStart, recordEnd, recordLine}

@@ -1,8 +1,8 @@
 -- The line of an answer, and the line of a record (document 01, "The program").
 use Prim.Native.Nat.{ℕ, _+_}
 use mathlib.Core.List.{List, [], _∷_, _++_}
-use Rattle.lines.specs.Text.{bytes}
-use Rattle.lines.specs.Decimal.{fields}
+use Rattle.fields.specs.Text.{bytes}
+use Rattle.fields.specs.Decimal.{fields}
 use Rattle.scope.specs.declared.answer.Answer.{Answer}
 use Rattle.scope.specs.declared.slot.Slot.{Slot}
 

@@ -1,7 +1,7 @@
 // Text and numbers put into a lent buffer.
 ghost use Prim.Native.Nat.{_+_, _≤_};
 ghost use lib.ListN.{length};
-ghost use Rattle.lines.specs.Decimal.{decimal, field};
+ghost use Rattle.fields.specs.Decimal.{decimal, field};
 ghost use Rattle.printing.specs.Put.{Put, PutIn};
 
 // Puts n in decimal at `at`: the place after it.

@@ -1,3 +1,2 @@
 -- What the functions of `rules` cite beside `scope`.
-pub mod Leans
 pub mod Aimed

@@ -16,7 +16,7 @@ use Rattle.scope.specs.declared.rule.Rule.{Rule}
 use Rattle.scope.specs.declared.rule.RuleIs.the-variants as rule-is
 use Rattle.scope.specs.declared.outcome.Nodes.{Nodes}
 use Rattle.rules.specs.Aimed.{Within}
-use Rattle.fire.specs.Wrote.{Kept}
+use Rattle.acts.specs.Wrote.{Kept}
 use Rattle.tidy.specs.Sight.{names, sightOf}
 use Rattle.tidy.specs.Found.{Linked}
 use Rattle.tidy.specs.Running.{Due}

@@ -10,7 +10,7 @@ use Rattle.scope.specs.Tidy.{nextOf, quiet, firedAt, tidyFrom, Tidied}
 use Rattle.scope.specs.declared.outcome.Next.{Next}
 use Rattle.scope.specs.declared.outcome.Next.the-variants.{At, Nothing}
 use Rattle.words.specs.Ready.{Sized}
-use Rattle.fire.specs.Wrote.{Kept}
+use Rattle.acts.specs.Wrote.{Kept}
 use Rattle.tidy.specs.Found.{Found}
 use Rattle.tidy.specs.Running.{Due, Ran}
 

@@ -10,7 +10,7 @@ ghost use mathlib.Core.Path.{_≡_};
 ghost use mathlib.Core.Bool.{cond};
 ghost use Rattle.scope.specs.Tidy.{firedAt, quiet};
 ghost use Rattle.words.specs.Ready.{Sized};
-ghost use Rattle.fire.specs.Wrote.{Kept};
+ghost use Rattle.acts.specs.Wrote.{Kept};
 ghost use Rattle.tidy.specs.Running.{Due, Ran};
 
 // Fires a rule that is due at a slot.
@@ -24,7 +24,7 @@ pub fn fire_at(t: &mut [u32], c: usize, v: usize, n: u32)
             let link = link_to(t, c, v);
             match look(t, c, r, link, v) {
                 Sight::Missing => {}
-                Sight::Seen(x) => fire::act(t, c, r, x),
+                Sight::Seen(x) => acts::act(t, c, r, x),
             }
         }
     }

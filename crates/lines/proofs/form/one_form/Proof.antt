@@ -1,7 +1,7 @@
 -- `lines::form::one_form` meets its contract. Assumes nothing.
 use borrow.Author.Needs.{needs}
 use Rattle.lines.specs.Form.{tried}
-use Rattle.lines.specs.Read.{fieldsThen}
+use Rattle.fields.specs.Read.{fieldsThen}
 use Rattle.lines.proofs.form.one_form.Statement.{statement}
 use Rattle.lines.proofs.form.one_form.Tie as tie
 

@@ -8,7 +8,7 @@ use Rattle.lines.proofs.form.record_form.Lts as lts
 use Rattle.lines.proofs.form.made.Reads as made-reads
 use Rattle.lines.proofs.form.name.Reads as name-reads
 use Rattle.lines.proofs.form.three.Reads as three-reads
-use Rattle.lines.proofs.read.end.Reads as end-reads
+use Rattle.fields.proofs.read.end.Reads as end-reads
 
 -- src/form.rt:62:25
 slice-aggregate-three : tie.Need-slice-aggregate-three

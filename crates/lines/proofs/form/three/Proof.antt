@@ -1,11 +1,11 @@
 -- `lines::form::three` meets its contract. Assumes nothing.
-use Rattle.lines.specs.Read.{fieldsThen}
+use Rattle.fields.specs.Read.{fieldsThen}
 use borrow.Author.Needs.{needs}
 use Rattle.lines.proofs.form.three.Statement.{statement}
 use Rattle.lines.proofs.form.three.Tie as tie
 use Rattle.lines.proofs.form.three.Reads as reads
 use Rattle.lines.proofs.form.three.Lts as lts
-use Rattle.lines.proofs.read.field.Reads as field-reads
+use Rattle.fields.proofs.read.field.Reads as field-reads
 
 -- src/form.rt:55:29
 field-requires : tie.Need-field-requires

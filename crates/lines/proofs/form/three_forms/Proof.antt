@@ -10,7 +10,7 @@ use Rattle.lines.proofs.form.made.Reads as made-reads
 use Rattle.lines.proofs.form.name.Reads as name-reads
 use Rattle.lines.proofs.form.record_form.Reads as record-form-reads
 use Rattle.lines.proofs.form.three.Reads as three-reads
-use Rattle.lines.proofs.read.end.Reads as end-reads
+use Rattle.fields.proofs.read.end.Reads as end-reads
 
 -- src/form.rt:89:24
 slice-aggregate-name : tie.Need-slice-aggregate-name

@@ -6,7 +6,7 @@ use native.Mathlib.Omega.{arith}
 use borrow.Fn.Kinds.{In}
 use borrow.Fn.PlainCycle.{Measures, is, falls, and}
 use lib.ListN.{length, length-set}
-use Rattle.lines.proofs.Decimal.{decimal-small, decimal-step, decimal-step-length}
+use Rattle.fields.proofs.Decimal.{decimal-small, decimal-step, decimal-step-length}
 use Rattle.printing.proofs.Laid.{put-byte, put-more}
 use Rattle.printing.proofs.text.+put_number.{statement}
 use Rattle.printing.proofs.text.+put_number.Tie.{close}

@@ -2,7 +2,7 @@
 use native.Mathlib.Omega.{arith}
 use borrow.Author.Needs.{needs}
 use Rattle.printing.proofs.Laid.{put-then}
-use Rattle.lines.proofs.Decimal.{decimal-length}
+use Rattle.fields.proofs.Decimal.{decimal-length}
 use Rattle.printing.proofs.text.put_field.Statement.{statement}
 use Rattle.printing.proofs.text.put_field.Tie as tie
 

@@ -1,0 +1,3 @@
+-- What the functions of `acts` ask and promise beside `scope`.
+pub mod Wrote
+pub mod Parts

@@ -1,0 +1,5 @@
+// The actions of the eight rules: the words that a firing writes, one by one.
+pub mod action;
+pub mod put;
+
+pub use action::act;

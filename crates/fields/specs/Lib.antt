@@ -1,0 +1,5 @@
+-- The definitions that the contracts of `fields` cite.
+pub mod Text
+pub mod Decimal
+pub mod Number
+pub mod Read

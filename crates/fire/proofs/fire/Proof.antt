@@ -1,0 +1,89 @@
+-- `fire::fire` meets its contract. Assumes nothing.
+use mathlib.Core.Path.{sym, _∙_, ap}
+use native.Mathlib.Omega.{arith}
+use denote.Ref.{now}
+use borrow.Author.Needs.{needs}
+use Rattle.fire.proofs.Planned.{fire-shut, fire-refused, fire-fired}
+use Rattle.words.proofs.Laws.{slots-room}
+use Rattle.scope.specs.Answers.{Done}
+use Rattle.fire.proofs.fire.Statement.{statement}
+use Rattle.fire.proofs.fire.Tie as tie
+
+capacity-requires : tie.Need-capacity-requires
+capacity-requires c κs = search needs
+
+enum-told : tie.Need-enum-told
+enum-told c = search needs
+
+refuse-requires : tie.Need-refuse-requires
+refuse-requires c κs = search needs
+
+enum-known-s : tie.Need-enum-known-s
+enum-known-s c = search needs
+
+plan-in-requires : tie.Need-plan-in-requires
+plan-in-requires c κs = slots-room (now (c .before .before .before .before .before .before .args .t)) _ (sym (c .before .before .before .before .capacity .ensures) ∙ c .before .before .s .given .1)
+
+enum-known-why : tie.Need-enum-known-why
+enum-known-why c = search needs
+
+refuse-requires-2 : tie.Need-refuse-requires-2
+refuse-requires-2 c κs = search needs
+
+enum-known-r : tie.Need-enum-known-r
+enum-known-r c = search needs
+
+change-requires : tie.Need-change-requires
+change-requires c κs = let s = slots-room (now (c .before .before .before .before .before .before .before .before .before .before .before .args .t)) _ (sym (c .before .before .before .before .before .before .before .before .before .capacity .ensures) ∙ c .before .before .before .before .before .before .before .s .given .1) in omega (arith, s .room, s .some)
+
+act-requires : tie.Need-act-requires
+act-requires c κs = (slots-room (now (c .before .before .before .before .before .before .before .before .before .before .before .before .before .args .t)) _ (sym (c .before .before .before .before .before .before .before .before .before .before .before .capacity .ensures) ∙ c .before .before .before .before .before .before .before .before .before .s .given .1), rw (c .before .before .before .before .r .given .1) at (c .before .before .before .before .before .before .plan-in .ensures .may))
+
+long-requires : tie.Need-long-requires
+long-requires c κs = search needs
+
+accept-requires : tie.Need-accept-requires
+accept-requires c κs = search needs
+
+returns : tie.Need-returns
+returns c = let a = c .before .before .before .before .before .args in
+    let e = sym (fire-shut (now (a .t)) (a .rule) (a .holder) (a .side) (sym (c .before .before .before .capacity .ensures) ∙ c .before .enum-told .given .1)) in
+    (c .refuse .ensures ∙ ap (λ (d : Done). d .answer) e, ap (λ (d : Done). d .words) e)
+
+same-length : tie.Need-same-length
+same-length c = search needs
+
+returns-2 : tie.Need-returns-2
+returns-2 c = let a = c .before .before .before .before .before .before .before .before .before .before .before .args in
+    let e = sym (fire-refused (now (a .t)) (a .rule) (a .holder) (a .side) (sym (c .before .before .before .before .before .before .before .before .before .capacity .ensures) ∙ c .before .before .before .before .before .before .before .s .given .1) (sym (c .before .before .why .given .1) ∙ c .before .before .before .before .plan-in .ensures .is)) in
+    (c .refuse2 .ensures ∙ ap (λ (d : Done). d .answer) e, ap (λ (d : Done). d .words) e)
+
+same-length-2 : tie.Need-same-length-2
+same-length-2 c = search needs
+
+returns-3 : tie.Need-returns-3
+returns-3 c = let a = c .before .before .before .before .before .before .before .before .before .before .before .before .before .before .before .before .before .before .args in
+    let e = sym (fire-fired (now (a .t)) (a .rule) (a .holder) (a .side) (sym (c .before .before .before .before .before .before .before .before .before .before .before .before .before .before .before .before .capacity .ensures) ∙ c .before .before .before .before .before .before .before .before .before .before .before .before .before .before .s .given .1) (sym (c .before .before .before .before .before .before .before .before .before .r .given .1) ∙ c .before .before .before .before .before .before .before .before .before .before .before .plan-in .ensures .is)) in
+    (c .accept .ensures ∙ simp (c .before .long .ensures, c .before .before .before .before .before .before .change .ensures) (ap (λ (d : Done). d .answer) e), c .before .before .before .before .act .ensures .is ∙ ap (λ (d : Done). d .words) e)
+
+pub fire-spec : {M : Type 1} → statement M
+fire-spec =
+    tie.close
+    (tie.spec
+    capacity-requires
+    enum-told
+    refuse-requires
+    enum-known-s
+    plan-in-requires
+    enum-known-why
+    refuse-requires-2
+    enum-known-r
+    change-requires
+    act-requires
+    long-requires
+    accept-requires
+    returns
+    same-length
+    returns-2
+    same-length-2
+    returns-3)

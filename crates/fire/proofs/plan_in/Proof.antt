@@ -1,0 +1,51 @@
+-- `fire::plan_in` meets its contract. Assumes nothing.
+use mathlib.Core.Path.{sym, _∙_}
+use borrow.Author.Needs.{needs}
+use Rattle.fire.proofs.Planned.{link-holder}
+use Rattle.fire.proofs.plan_in.Statement.{statement}
+use Rattle.fire.proofs.plan_in.Tie as tie
+
+of-requires : tie.Need-of-requires
+of-requires c κs = search needs
+
+enum-told : tie.Need-enum-told
+enum-told c = search needs
+
+enum-known-r : tie.Need-enum-known-r
+enum-known-r c = search needs
+
+of-requires-2 : tie.Need-of-requires-2
+of-requires-2 c κs = search needs
+
+enum-told-2 : tie.Need-enum-told-2
+enum-told-2 c = search needs
+
+enum-known-link : tie.Need-enum-known-link
+enum-known-link c = search needs
+
+aim-at-requires : tie.Need-aim-at-requires
+aim-at-requires c κs = let a = c .before .before .before .before .before .before .before .before .before .args in (c .before .before .before .before .before .before .before .before .before .pre, link-holder (a .c) (a .holder) (a .side) (sym (c .before .before .before .of2 .ensures) ∙ c .before .link .given .1))
+
+returns : tie.Need-returns
+returns c = record { is = simp (sym (c .before .before .of .ensures), c .enum-told .given .1); may = tt }
+
+returns-2 : tie.Need-returns-2
+returns-2 c = record { is = simp (sym (c .before .before .before .before .before .before .of .ensures), c .before .before .before .before .r .given .1, sym (c .before .before .of2 .ensures), c .enum-told2 .given .1); may = tt }
+
+returns-3 : tie.Need-returns-3
+returns-3 c = record { is = simp (sym (c .before .before .before .before .before .before .before .before .of .ensures), c .before .before .before .before .before .before .r .given .1, sym (c .before .before .before .before .of2 .ensures), c .before .before .link .given .1) (c .aim-at .ensures .is); may = c .aim-at .ensures .may }
+
+pub plan-in-spec : {M : Type 1} → statement M
+plan-in-spec =
+    tie.close
+    (tie.spec
+    of-requires
+    enum-told
+    enum-known-r
+    of-requires-2
+    enum-told-2
+    enum-known-link
+    aim-at-requires
+    returns
+    returns-2
+    returns-3)

@@ -1,0 +1,3 @@
+-- Laws that the functions of `guards` lean on.
+pub mod Turning
+pub mod Limit

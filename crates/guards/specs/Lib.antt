@@ -1,0 +1,2 @@
+-- What the functions of `guards` ask and promise beside `scope`.
+pub mod Leans

@@ -1,0 +1,91 @@
+-- What the numbers of a drop's plan are good for: its writes lie in the table. Assumes nothing: these are statements.
+use Prim.Native.Nat.{ℕ, _≤_, _<_}
+use mathlib.Core.Path.{_≡_}
+use mathlib.Core.Bool.{true}
+use mathlib.Core.List.{List}
+use Rattle.scope.specs.Numbers.{lastChange}
+use Rattle.scope.specs.Table.{word, countWord, changeWord, slotAt}
+use Rattle.scope.specs.Fit.{fitSlot}
+use Rattle.scope.specs.declared.side.Link.{Link}
+use Rattle.scope.specs.declared.side.Side.the-variants.{Right}
+use Rattle.scope.specs.declared.outcome.Walk.{Walk}
+use Rattle.scope.specs.declared.outcome.Walk.the-variants as walk
+use Rattle.scope.specs.declared.outcome.Leftmost.{Leftmost}
+use Rattle.scope.specs.declared.outcome.Leftmost.the-variants as leftmost
+use Rattle.scope.specs.declared.outcome.Dropping.{Dropping}
+use Rattle.scope.specs.declared.outcome.Dropping.the-variants.{Refuse, Lift, Replace}
+use Rattle.words.specs.Ready.{Sized, Ready}
+use Rattle.settling.specs.Planned.{Placed}
+
+-- the slot of a hit is fit
+abbrev pub HitFits : List ℕ → ℕ → Walk → Type 0
+HitFits t c (walk.Hit slot link seen) = fitSlot c (slotAt t slot) ≡ true
+HitFits t c (walk.Miss link seen) = Unit {0}
+HitFits t c walk.Damage = Unit {0}
+
+-- a fit slot of the table, found by its key at a link, after so many visits
+pub record Found (t : List ℕ) (c slot : ℕ) (link : Link) (visits : ℕ) : Type 0 where
+  pub ready : Ready t c
+  pub first : 1 ≤ slot
+  pub last : slot ≤ c
+  pub held : link .holder ≤ c
+  pub seen : visits ≤ c
+  pub fits : fitSlot c (slotAt t slot) ≡ true
+
+-- the link on the right of a slot
+abbrev pub rightLink : ℕ → Link
+rightLink slot = record { holder = slot; side = Right }
+
+-- a link of the table, and a slot or none to hang there
+pub record Linkable (t : List ℕ) (link : Link) (son : ℕ) : Type 0 where
+  pub slots : ℕ
+  pub sized : Sized t slots
+  pub held : link .holder ≤ slots
+  pub below : son ≤ slots
+
+-- the leftmost slot of a subtree and what hangs on its right lie among c slots
+abbrev pub Inside : List ℕ → ℕ → Leftmost → Type 0
+Inside t c leftmost.Broken = Unit {0}
+Inside t c (leftmost.Is least link) = (1 ≤ least) × (least ≤ c) × (link .holder ≤ c) × (slotAt t least .right ≤ c)
+
+pub record Reached (t : List ℕ) (c : ℕ) (end r : Leftmost) : Type 0 where
+  pub is : r ≡ end
+  pub inside : Inside t c r
+
+-- a record that can be lifted out, and one that another can replace
+pub record Lifting (t : List ℕ) (slot : ℕ) (link : Link) (son : ℕ) : Type 0 where
+  pub placed : Placed t slot
+  pub held : link .holder ≤ placed .slots
+  pub below : son ≤ placed .slots
+
+pub record Replacing (t : List ℕ) (slot least : ℕ) (link : Link) : Type 0 where
+  pub placed : Placed t slot
+  pub inside : Inside t (placed .slots) (leftmost.Is least link)
+
+abbrev pub Aimed : List ℕ → Dropping → Type 0
+Aimed t (Refuse why) = Unit {0}
+Aimed t (Lift slot link son) = Lifting t slot link son
+Aimed t (Replace slot least link) = Replacing t slot least link
+
+-- a record is counted, and there is a change number left
+pub record May (t : List ℕ) : Type 0 where
+  pub some : 1 ≤ word t countWord
+  pub change : word t changeWord < lastChange
+
+pub record Liftable (t : List ℕ) (slot : ℕ) (link : Link) (son : ℕ) : Type 0 where
+  pub aimed : Lifting t slot link son
+  pub may : May t
+
+pub record Replaceable (t : List ℕ) (slot least : ℕ) (link : Link) : Type 0 where
+  pub aimed : Replacing t slot least link
+  pub may : May t
+
+abbrev pub CanDrop : List ℕ → Dropping → Type 0
+CanDrop t (Refuse why) = Unit {0}
+CanDrop t (Lift slot link son) = Liftable t slot link son
+CanDrop t (Replace slot least link) = Replaceable t slot least link
+
+-- the plan of a drop is the defined one and can be carried out
+pub record Planned (t : List ℕ) (plan r : Dropping) : Type 0 where
+  pub is : r ≡ plan
+  pub can : CanDrop t r

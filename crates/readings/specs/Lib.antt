@@ -1,0 +1,2 @@
+-- The printed line of a command.
+pub mod Printed

@@ -1,2 +1,0 @@
--- What the plan of a drop is good for.
-pub mod Planned

@@ -1,0 +1,2 @@
+-- Laws that the functions of `settling` lean on.
+pub mod Carried

@@ -1,0 +1,3 @@
+-- What the functions of `settling` ask and promise beside `scope`.
+pub mod Ends
+pub mod Planned

@@ -1,0 +1,25 @@
+// How an accepted call ends: the header's numbers are written, and the answer names a slot.
+use scope::Answer;
+ghost use Prim.Native.Nat.{_≤_, _<_};
+ghost use Rattle.scope.specs.Numbers.{lastChange};
+ghost use Rattle.words.specs.Ready.{Headed};
+ghost use Rattle.settling.specs.Ends.{Does, numbered, settled};
+
+// One change more than before.
+pub fn next_change(t: &mut [u32], before: u32, slot: usize) -> Answer
+    requires { ⌜ Headed (now t) × (before < lastChange) ⌝ }
+    ensures { λ r. ⌜ Does (numbered (now (t .entry)) before slot) r (now (t .exit)) ⌝ }
+{
+    let change = before + 1;
+    words::put_change(t, change);
+    gate::accept(words::long(change), words::size(slot), 0, 0)
+}
+
+// So many records, and one change more than before.
+pub fn settle(t: &mut [u32], count: usize, before: u32, slot: usize) -> Answer
+    requires { ⌜ Headed (now t) × (count ≤ 4095) × (before < lastChange) ⌝ }
+    ensures { λ r. ⌜ Does (settled (now (t .entry)) count before slot) r (now (t .exit)) ⌝ }
+{
+    words::put_records(t, count);
+    next_change(t, before, slot)
+}
