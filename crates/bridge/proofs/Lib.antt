@@ -12,6 +12,7 @@ pub mod Along
 pub mod Ways
 pub mod Fires
 pub mod Calls
+pub mod Held
 -- the search walk, and rest
 pub mod Seeks
 pub mod Quiets
