@@ -13,6 +13,9 @@ pub mod Ways
 pub mod Fires
 pub mod Calls
 pub mod Held
+pub mod Linked
+pub mod Dues
+pub mod Meets
 -- the search walk, and rest
 pub mod Seeks
 pub mod Quiets
