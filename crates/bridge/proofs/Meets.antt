@@ -147,10 +147,11 @@ module _ {t : List ℕ} {c : ℕ} (w : Whole t c) (r : Rule) where
       rw (link-to w v i j (v-some m) .1) at (f .is)
 
   -- AND WHAT IS ACCEPTED ON THE TREE is due at the slot there
-  pub accepts-due : (way : List Side) (T′ : Tree) → acceptAt way r T ≡ some T′ → Fires t c r (linkAlong t way rootLink)
+  pub accepts-due : (way : List Side) (T′ : Tree) → acceptAt way r T ≡ some T′
+      → Fires t c r (linkAlong t way rootLink) × (word t (linkAt (linkAlong t way rootLink)) ≤ c)
   accepts-due way T′ e =
       let p = placed (within mostHeight) r way T T′ e in
       let l = linkAlong t way rootLink in
       let lead : Leads t rootLink T l = record { way = way; tree = p .from; there = p .there; ends = refl } in
       let a = rw e at (same-way w r l lead) in
-      fires-out t _ _ _ a (λ q n x. fires-so q n t c r l x)
+      (fires-out t _ _ _ a (λ q n x. fires-so q n t c r l x), hangs-along way rootLink T (p .from) (hangs-root w) (p .there) .most)
