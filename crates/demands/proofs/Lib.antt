@@ -15,5 +15,7 @@ pub mod Amending
 pub mod Posting
 pub mod Firing
 pub mod Stuck
+-- tidy is its firings
+pub mod Tidying
 -- the promises exclude what does nothing
 pub mod Teeth

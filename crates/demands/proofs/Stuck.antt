@@ -29,12 +29,9 @@ use Rattle.bridge.proofs.Fires.{hangs-root, same-way}
 use Rattle.bridge.proofs.Calls.{plan-is}
 use Rattle.bridge.proofs.Held.{root-only}
 use Rattle.bridge.proofs.Quiets.{relaxed, numbered}
+use Rattle.demands.specs.Tidying.{sideNumber}
 use Rattle.demands.proofs.Entries.{not-less}
 use Rattle.demands.proofs.Walks.{tree-small}
-
-abbrev sideNumber : Side → ℕ
-sideNumber Left = 0
-sideNumber Right = 1
 
 -- a link of a table has its numbers
 some-holder : (c k : ℕ) (s : Side) → k ≤ c → (k ≡ 0 → ⊥)
@@ -47,7 +44,7 @@ root-known : (c : ℕ) → linkOf c 0 0 ≡ Known rootLink
 unfolding linkOf sideOf
 root-known c = rw (not-less c 0 (omega arith)) refl
 
-link-known : (c : ℕ) (l : Link) → l .holder ≤ c → (l .holder ≡ 0 → l ≡ rootLink)
+pub link-known : (c : ℕ) (l : Link) → l .holder ≤ c → (l .holder ≡ 0 → l ≡ rootLink)
     → linkOf c (l .holder) (sideNumber (l .side)) ≡ Known l
 link-known c l h r =
     elim (ℕ-discrete (l .holder) 0) [
