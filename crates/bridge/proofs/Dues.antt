@@ -136,7 +136,8 @@ module _ (q : Rule) (n : Nodes) where
     due-so : Seen → dueAt t c r v ≡ true
     unfolding dueAt holdsAt guardAt highestAt
     due-so s =
-        let state : not (eqb (slotAt t v .state) 0) ≡ true = rw (some-state _ (fits c (slotAt t v) (s .v-fit) .state)) refl in
+        let f = fits c (slotAt t v) (s .v-fit) in
+        let state : not (eqb (slotAt t v .state) 0) ≡ true = rw (some-state _ (f .state)) refl in
         let at-u = there u (s .u-first) (fit-son c (slotAt t v) (r .side) (s .v-fit)) in
         let at-w = there (nodes .w) (s .w-first) (s .w-most) in
         all-five state at-u at-w (s .judged .guard) (s .judged .low)

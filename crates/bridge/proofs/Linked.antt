@@ -29,8 +29,8 @@ no-son : (x : Slot) (v : ℕ) → eqb (x .left) v ≡ false → eqb (x .right) v
 no-son x v p q Left = eqb-false (x .left) v p
 no-son x v p q Right = eqb-false (x .right) v q
 
-later : {t : List ℕ} {v k end : ℕ} {l : Link} → 1 ≤ k → ((s : Side) → son (slotAt t k) s ≡ v → ⊥) → Sought t v (k + 1) end l
-    → Sought t v k end l
+later : {t : List ℕ} {v k end : ℕ} {l : Link} → 1 ≤ k → ((s : Side) → son (slotAt t k) s ≡ v → ⊥)
+    → Sought t v (k + 1) end l → Sought t v k end l
 later i not (found a b e) = found a b e
 later {t} {v} {k} i not (root f) =
     root (λ l a b e. elim (ℕ-discrete k (l .holder)) [
@@ -47,14 +47,15 @@ sought (suc left) t v k i =
     (λ p. rw p (found i (omega arith) (link-son t (on Left) i ∙ eqb-true _ _ p)))
     (λ p. by-bool (eqb (slotAt t k .right) v)
     (λ q. rw (p, q) (found i (omega arith) (link-son t (on Right) i ∙ eqb-true _ _ q)))
-    (λ q. rw (p, q) (later i (no-son (slotAt t k) v p q)
-    (let same-end : k + 1 + left ≡ k + suc left = omega arith in rw (← same-end) (sought left t v (k + 1) (omega arith))))))
+    (λ q. let same-end : k + 1 + left ≡ k + suc left = omega arith in
+    let on′ = rw same-end at (sought left t v (k + 1) (omega arith)) in
+    rw (p, q) (later i (no-son (slotAt t k) v p q) on′)))
 
 module _ {t : List ℕ} {c : ℕ} (w : Whole t c) where
   found-is : (v : ℕ) (h : HeldAt t c v) → 1 ≤ v → (l : Link) → Sought t v 1 (1 + c) l → l ≡ h .link
   found-is v h i l (found a b e) =
-      one-link w l (h .link) (record { most = omega arith; root = λ z. absurd (omega arith) }) (h .linkIn) (e ∙ sym (h .is))
-      (rw e i)
+      let in-table : LinkIn c l = record { most = omega arith; root = λ z. absurd (omega arith) } in
+      one-link w l (h .link) in-table (h .linkIn) (e ∙ sym (h .is)) (rw e i)
   found-is v h i l (root f) =
       elim (ℕ-discrete (h .link .holder) 0) [
         | yes z ↦ sym (h .linkIn .root z)

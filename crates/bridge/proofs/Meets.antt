@@ -69,7 +69,8 @@ module _ {test : Test} {t : List ℕ} {c : ℕ} {r : Rule} {v : ℕ} (m : Meets 
   w-some : nodesAt t r rootLink v .w ≡ 0 → ⊥
   w-some =
       let n = nodesAt t r rootLink v in
-      eqb-false _ _ (not-true _ (and-l _ _ (and-r (not (eqb (slotAt t v .state) 0) && (not (eqb (n .u) 0) && leb (n .u) c)) _ (m .there))))
+      let before = not (eqb (slotAt t v .state) 0) && (not (eqb (n .u) 0) && leb (n .u) c) in
+      eqb-false _ _ (not-true _ (and-l _ _ (and-r before _ (m .there))))
 
 module _ (t : List ℕ) (c : ℕ) (test : Test) (l : Link) where
   -- what passes on words comes out at the top of the tree that hangs there
@@ -77,7 +78,8 @@ module _ (t : List ℕ) (c : ℕ) (test : Test) (l : Link) where
   Comes r S = Hangs t c l S → 1 ≤ word t (linkAt l) → Meets test t c r (word t (linkAt l))
       → (S′ : Tree) × (rewriteTop test r S ≡ some S′)
 
-  step : {k : Kind} {s : Side} {S S′ : Tree} → Step test s k S S′ → (S″ : Tree) × (rewriteTop test (ruleOn k s) S ≡ some S″)
+  step : {k : Kind} {s : Side} {S S′ : Tree} → Step test s k S S′
+      → (S″ : Tree) × (rewriteTop test (ruleOn k s) S ≡ some S″)
   step {k} {s} {S} {S′} x = (S′, steps test (ruleOn k s) S S′ x)
 
   comes-three : (s : Side) (dv du dw : Batch) (v u w : Pair) (m e f far : Tree)
@@ -89,7 +91,8 @@ module _ (t : List ℕ) (c : ℕ) (test : Test) (l : Link) where
       step (doubles dv du dw v u w m e f far (rw (lv .registers, lu .registers, lw .registers) (a .passes)))
 
   passes-two : (k : Kind) → hasThird k ≡ false → (s : Side) (dv du : Batch) (v u : Pair) (m n far : Tree)
-      → Hangs t c l (mk s dv v (mk s du u m n) far) → Meets test t c (ruleOn k s) (word t (linkAt l)) → test k v u u ≡ true
+      → Hangs t c l (mk s dv v (mk s du u m n) far) → Meets test t c (ruleOn k s) (word t (linkAt l))
+      → test k v u u ≡ true
   passes-two k e s dv du v u m n far h a =
       rw (look-v l s dv du v u m n far h .registers, look-u l s dv du v u m n far h .registers) (rw e at (a .passes))
 
@@ -154,4 +157,5 @@ module _ {t : List ℕ} {c : ℕ} (w : Whole t c) (r : Rule) where
       let l = linkAlong t way rootLink in
       let lead : Leads t rootLink T l = record { way = way; tree = p .from; there = p .there; ends = refl } in
       let a = rw e at (same-way w r l lead) in
-      (fires-out t _ _ _ a (λ q n x. fires-so q n t c r l x), hangs-along way rootLink T (p .from) (hangs-root w) (p .there) .most)
+      let h = hangs-along way rootLink T (p .from) (hangs-root w) (p .there) in
+      (fires-out t _ _ _ a (λ q n x. fires-so q n t c r l x), h .most)

@@ -68,7 +68,8 @@ known-rule limited t c v Unknown e k = neither e refl
 known-rule limited t c v (Known r) e k = k r refl
 
 -- with the limit or without it, its guard holds
-guard-holds : (limited : Bool) (t : List ℕ) (c v : ℕ) (r : Rule) → byRule limited t c v (Known r) ≡ true → holdsAt t c r v ≡ true
+guard-holds : (limited : Bool) (t : List ℕ) (c v : ℕ) (r : Rule) → byRule limited t c v (Known r) ≡ true
+    → holdsAt t c r v ≡ true
 unfolding dueAt
 guard-holds true t c v r e = and-l _ _ e
 guard-holds false t c v r e = e
@@ -123,5 +124,6 @@ module _ {t : List ℕ} {c : ℕ} (w : Whole t c) where
       let f = accepts-due w r way T′ o in
       let n = numbered r in
       let x = word t (linkAt (linkAlong t way rootLink)) in
-      let z = no-slot (passes true t c) c 1 (ap nothing e) x (n .number) (f .0 .first) (omega (arith, f .1)) (n .first) (n .most) in
+      let z = no-slot (passes true t c) c 1 (ap nothing e) x (n .number) (f .0 .first) (omega (arith, f .1))
+      (n .first) (n .most) in
       neither (f .0 .due) (rw (n .is) at z)))

@@ -17,5 +17,6 @@ pub mod Firing
 pub mod Stuck
 -- tidy is its firings
 pub mod Tidying
+pub mod Tidied
 -- the promises exclude what does nothing
 pub mod Teeth

@@ -9,6 +9,7 @@ use Rattle.scope.specs.Table.{word, changeWord}
 use Rattle.scope.specs.Answers.{Done, accepted}
 use Rattle.scope.specs.Fire.{aimed, firePlan, fired, fireOf}
 use Rattle.scope.specs.Tidy.{nodesAt, linkTo, nextOf, firedAt, tidyFrom, tidied, tidyOf, tidyTable}
+use Rattle.scope.specs.Calls.{answerOf, tableOf, answers, after}
 use Rattle.scope.specs.declared.outcome.Next.{Next}
 use Rattle.scope.specs.declared.outcome.Next.the-variants.{At, Nothing}
 use Rattle.scope.specs.declared.outcome.Firing.the-variants.{Fire}
@@ -17,8 +18,9 @@ use Rattle.bridge.proofs.Calls.{plan-is}
 use Rattle.bridge.proofs.Linked.{link-to}
 use Rattle.bridge.proofs.Meets.{v-some, due-meets, due-fires}
 use Rattle.bridge.proofs.Rests.{next-due}
+use Rattle.ledger.specs.Ledger.{Ledger}
 use Rattle.demands.specs.Fires.{Trial}
-use Rattle.demands.specs.Tidying.{sideNumber, trialAt, tried, Firings, rests, spent, next, Tidies}
+use Rattle.demands.specs.Tidying.{sideNumber, trialAt, tried, Firings, rests, spent, next, Stopped, all-spent, at-rest, Ran, Tidies}
 use Rattle.demands.proofs.Open.{sound-opens}
 use Rattle.demands.proofs.Stuck.{link-known}
 use Rattle.demands.proofs.Firing.{fire-ledger}
@@ -69,12 +71,39 @@ step : {left : ℕ} {t : List ℕ} {c made : ℕ} → Whole t c → (x : Next) �
 step w Nothing e again = none-more e
 step {left} {t} {c} w (At v n) e again =
     let x = trialAt t c v n in
-    one-more w v n e (again (firedAt t c v n) (rw (next-fires w v n e) at (fire-ledger w (x .rule) (x .holder) (x .side) .whole)))
+    let s = fire-ledger w (x .rule) (x .holder) (x .side) in
+    one-more w v n e (again (firedAt t c v n) (rw (next-fires w v n e) at (s .whole)))
 
 run : (left : ℕ) {t : List ℕ} {c : ℕ} (made : ℕ) → Whole t c → Run t c left made
 unfolding tidyFrom
 run zero {t} {c} made w = record { trials = []; firings = spent; count = omega arith }
 run (suc left) {t} {c} made w = step w (nextOf t c) refl (λ u v. run left (made + 1) v)
+
+more-spent : {t : List ℕ} {c n budget : ℕ} → Stopped t c n budget → Stopped t c (suc n) (suc budget)
+more-spent (all-spent e) = all-spent (ap suc e)
+more-spent (at-rest e) = at-rest e
+
+-- WHAT THE FIRINGS COME TO
+pub firings-run : {t t′ : List ℕ} {c budget : ℕ} {xs : List Trial} → Whole t c → Firings c t budget xs t′
+    → Ran t c budget xs t′
+unfolding answers after answerOf tableOf
+firings-run w (rests e) =
+    record { table = refl; replies = refl; most = omega arith; stopped = at-rest e; whole = w; ledger = refl }
+firings-run w spent =
+    record { table = refl; replies = refl; most = omega arith; stopped = all-spent refl; whole = w; ledger = refl }
+firings-run {t} {t′} {c} w (next {xs = xs} v n e a f) =
+    let x = trialAt t c v n in
+    let s = fire-ledger w (x .rule) (x .holder) (x .side) in
+    let r = firings-run (s .whole) f in
+    let same : word (tried t x .words) changeWord ≡ word t changeWord = ap (λ (l : Ledger). l .change) (s .ledger) in
+    record {
+      table = r .table;
+      replies = rw (a, r .replies, same) refl;
+      most = omega (arith, r .most);
+      stopped = more-spent (r .stopped);
+      whole = r .whole;
+      ledger = r .ledger ∙ s .ledger;
+    }
 
 -- the call on a sound table
 tidy-opens : {t : List ℕ} {c : ℕ} → Whole t c → (budget : ℕ) → tidyOf t budget ≡ tidied t c (tidyFrom budget c t 0)
@@ -92,5 +121,6 @@ tidy-is {t} {c} w budget =
     record {
       trials = r .trials;
       firings = rw words (r .firings);
+      run = rw words (firings-run w (r .firings));
       answer = ap (λ (d : Done). d .answer) is ∙ rw (count, words) refl;
     }
