@@ -9,17 +9,13 @@ use lib.Dec.{eqb}
 use borrow.Author.Tests.{ne-eqb}
 use Rattle.scope.proofs.Bools.{by-bool, neither}
 use Rattle.scope.specs.Numbers.{ruleOf}
-use Rattle.scope.specs.Tidy.{dueAt, byRule, passes, rulesFrom, slotsFrom, nextOf}
+use Rattle.scope.specs.Tidy.{byRule, passes, rulesFrom, slotsFrom, nextOf}
 use Rattle.scope.specs.declared.rule.Rule.{Rule}
 use Rattle.scope.specs.declared.rule.RuleIs.{RuleIs}
 use Rattle.scope.specs.declared.rule.RuleIs.the-variants.{Unknown, Known}
 use Rattle.scope.specs.declared.outcome.Next.{Next}
 use Rattle.scope.specs.declared.outcome.Next.the-variants.{At, Nothing}
-
--- the stated order: the lower slot first, and at the same slot the lower rule
-pub data NotAfter (v n x y : ℕ) : Type 0 where
-  lower-slot : v < x → NotAfter v n x y
-  same-slot : v ≡ x → n ≤ y → NotAfter v n x y
+use Rattle.bridge.specs.Due.{Due, NotAfter, lower-slot, same-slot}
 
 module _ (test : ℕ → ℕ → Bool) where
   -- a search finds nothing where no test passes
@@ -28,7 +24,8 @@ module _ (test : ℕ → ℕ → Bool) where
   rules-none zero v n after h = refl
   rules-none (suc left) v n after h = rw (h n) (rules-none left v (n + 1) after h)
 
-  pub slots-none : (left k : ℕ) → ((v n : ℕ) → k ≤ v → v < k + left → test v n ≡ false) → slotsFrom test left k ≡ Nothing
+  pub slots-none : (left k : ℕ) → ((v n : ℕ) → k ≤ v → v < k + left → test v n ≡ false)
+      → slotsFrom test left k ≡ Nothing
   unfolding slotsFrom
   slots-none zero k h = refl
   slots-none (suc left) k h =
@@ -91,14 +88,6 @@ pub known-rule : {X : Type 0} (limited : Bool) (t : List ℕ) (c v : ℕ) (i : R
     → ((r : Rule) → i ≡ Known r → X) → X
 known-rule limited t c v Unknown e k = neither e refl
 known-rule limited t c v (Known r) e k = k r refl
-
--- number n is that of a rule that is due at slot v
-pub record Due (t : List ℕ) (c v n : ℕ) : Type 0 where
-  pub rule : Rule
-  pub is : ruleOf n ≡ Known rule
-  pub first : 1 ≤ v
-  pub most : v ≤ c
-  pub due : dueAt t c rule v ≡ true
 
 -- THE RULE THAT IS NEXT is due
 pub next-due : (t : List ℕ) (c v n : ℕ) → nextOf t c ≡ At v n → Due t c v n

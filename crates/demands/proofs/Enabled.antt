@@ -31,9 +31,10 @@ use Rattle.bridge.proofs.Held.{way-to, one-link}
 use Rattle.bridge.proofs.Linked.{link-to}
 use Rattle.bridge.proofs.Dues.{Fires, fires-so}
 use Rattle.bridge.proofs.Meets.{v-some, due-meets}
-use Rattle.bridge.proofs.Searches.{NotAfter, Due, next-first}
+use Rattle.bridge.specs.Due.{NotAfter}
+use Rattle.bridge.proofs.Searches.{next-first}
 use Rattle.demands.specs.Fires.{Trial}
-use Rattle.demands.specs.Tidying.{sideNumber, trialAt, tried}
+use Rattle.demands.specs.Tidying.{sideNumber, tried, DueTrial}
 use Rattle.demands.proofs.Open.{some-code}
 
 -- the numbers of a link are its own
@@ -63,12 +64,6 @@ link-numbers c holder side l e =
     by-bool (ltb c holder)
     (λ p. let x = simp p at e in let z : _≡_ {A = ℕ} 0 1 = cc in absurd (omega arith))
     (λ p. known-numbers holder side (sideOf side) l refl (simp p at e))
-
--- a call of fire that names a rule which is due at a slot, and the link where that slot hangs
-pub record DueTrial (t : List ℕ) (c : ℕ) (x : Trial) : Type 0 where
-  pub slot : ℕ
-  pub due : Due t c slot (x .rule)
-  pub is : x ≡ trialAt t c slot (x .rule)
 
 module _ {t : List ℕ} {c : ℕ} (w : Whole t c) where
   -- the slot at the link, and that its link is found

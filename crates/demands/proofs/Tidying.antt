@@ -17,7 +17,8 @@ use Rattle.sound.specs.Whole.{Whole}
 use Rattle.bridge.proofs.Calls.{plan-is}
 use Rattle.bridge.proofs.Linked.{link-to}
 use Rattle.bridge.proofs.Meets.{v-some, due-meets, due-fires}
-use Rattle.bridge.proofs.Searches.{Due, next-due}
+use Rattle.bridge.specs.Due.{Due}
+use Rattle.bridge.proofs.Searches.{next-due}
 use Rattle.ledger.specs.Ledger.{Ledger}
 use Rattle.demands.specs.Fires.{Trial}
 use Rattle.demands.specs.Tidying.{sideNumber, trialAt, tried, Firings, rests, spent, next, Stopped, all-spent, at-rest, Ran, Tidies}
