@@ -12,9 +12,15 @@ pub mod Along
 pub mod Ways
 pub mod Fires
 pub mod Calls
+pub mod Held
+pub mod Linked
+pub mod Dues
+pub mod Meets
 -- the search walk, and rest
 pub mod Seeks
 pub mod Quiets
+pub mod Searches
+pub mod Rests
 -- records amended and posted
 pub mod Keyed
 pub mod Grown

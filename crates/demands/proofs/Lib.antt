@@ -15,5 +15,9 @@ pub mod Amending
 pub mod Posting
 pub mod Firing
 pub mod Stuck
+-- tidy is its firings
+pub mod Enabled
+pub mod Tidying
+pub mod Tidied
 -- the promises exclude what does nothing
 pub mod Teeth
