@@ -1,36 +1,41 @@
 -- At the end of any way: a firing on words is that on the tree, accepted on the one exactly if on the other. Assumes nothing.
-use Prim.Native.Nat.{ℕ, _+_, _≤_}
+use Prim.Native.Nat.{ℕ, _+_, _≤_, _<_}
 use mathlib.Core.Path.{_≡_, refl, sym, _∙_, ap}
 use mathlib.Core.Bool.{true, false, _||_}
 use mathlib.Core.Option.{Option, none, some}
 use mathlib.Core.List.{List, [], _∷_}
 use native.Mathlib.Omega.{arith}
 use lib.Dec.{eqb, leb}
-use borrow.Author.Tests.{eq-eqb, ne-eqb, leb-true, eqb-true}
+use borrow.Author.Tests.{eq-eqb, ne-eqb, leb-true, le-leb, eqb-true}
 use Rattle.scope.proofs.Bools.{and-l, and-r, by-bool, neither}
 use Rattle.scope.specs.Numbers.{other, mostHeight}
-use Rattle.scope.specs.Table.{word, slotAt, son, linkAt}
+use Rattle.scope.specs.Table.{word, rootWord, slotAt, son, linkAt}
 use Rattle.scope.specs.Fit.{stateOk, linkOk, fitSlot}
-use Rattle.scope.specs.Tree.{Batch, Tree, times, same}
-use Rattle.scope.specs.Rules.{seen}
+use Rattle.scope.specs.Tree.{Batch, Tree, leaf, node, times, same}
+use Rattle.scope.specs.Sound.{Spells}
+use Rattle.scope.specs.Rules.{seen, pair}
 use Rattle.scope.specs.Fire.{aim, aimV}
 use Rattle.scope.specs.declared.rule.Pair.{Pair}
 use Rattle.scope.specs.declared.rule.Rule.{Rule}
 use Rattle.scope.specs.declared.side.Side.{Side}
+use Rattle.scope.specs.declared.side.Side.the-variants.{Left, Right}
 use Rattle.scope.specs.declared.side.Link.{Link}
 use Rattle.scope.specs.declared.outcome.Firing.{Firing}
 use Rattle.scope.specs.declared.outcome.Firing.the-variants.{Refuse, Fire}
+use Rattle.words.specs.Ready.{Sized}
 use Rattle.words.proofs.Laws.{fit-son, fits}
 use Rattle.sound.proofs.Frame.{frame}
 use Rattle.tree.specs.Rewrite.{mk, hung, acceptAt, rewriteAt}
-use Rattle.tree.specs.Place.{subtree, plug}
-use Rattle.tree.proofs.Steps.{no-tree, on-top, top-is}
+use Rattle.tree.specs.Place.{subtree}
+use Rattle.tree.proofs.Steps.{on-top, top-is}
 use Rattle.tree.proofs.Sides.{times-mk}
-use Rattle.bridge.specs.Edit.{sonOn, withPart, shape}
-use Rattle.bridge.specs.Below.{Hangs, Below}
+use Rattle.bridge.specs.Edit.{sonOn, registerOn, withPart, shape}
+use Rattle.bridge.specs.Below.{Hangs, Below, Cut}
 use Rattle.bridge.specs.Alike.{Alike}
 use Rattle.bridge.specs.Leads.{linkAlong}
-use Rattle.bridge.proofs.Looks.{shape-self, near-son, fit-from, Looks, look, spell}
+use Rattle.bridge.specs.Seek.{route, beside, endOf, atKey}
+use Rattle.bridge.proofs.Looks.{shape-self, near-son, near-register, fit-from, Looks, look, spell}
+use Rattle.bridge.proofs.Keyed.{by-key}
 use Rattle.bridge.proofs.Outside.{same-one, first-slot, link-son, steady, steady-root}
 use Rattle.bridge.proofs.Turns.{link-on}
 use Rattle.bridge.proofs.Aims.{same-at}
@@ -38,6 +43,23 @@ use Rattle.bridge.proofs.Aims.{same-at}
 low-register : (c x h : ℕ) → linkOk c x h ≡ true → h ≤ mostHeight
 unfolding linkOk
 low-register c x h e = leb-true _ _ (and-r (leb x c) _ (and-l _ _ e))
+
+no-link : (c : ℕ) → linkOk c 0 0 ≡ true
+unfolding linkOk
+no-link c = rw (le-leb 0 c (omega arith)) refl
+
+-- a link that takes a slot is one that may become 0
+pub below-cut : {t t′ : List ℕ} {c : ℕ} {l : Link} {S S′ : Tree} → Below t t′ c l S S′ → Cut t t′ c l S S′
+below-cut b =
+    record {
+      sized = b .sized;
+      top = b .top;
+      most = b .most;
+      spells = b .spells;
+      slots = λ k i z. b .slots k i z ∙ rw (ne-eqb (b .top) 0 (λ q. omega (arith, b .first))) refl;
+      root = b .root;
+      head = b .head;
+    }
 
 -- a node over its near son, at link l
 module _ {t : List ℕ} {c : ℕ} (l : Link) (s : Side) (d : Batch) (p : Pair) (near far : Tree) (h : Hangs t c l (mk s d p near far)) where
@@ -71,38 +93,65 @@ module _ {t : List ℕ} {c : ℕ} (l : Link) (s : Side) (d : Batch) (p : Pair) (
   pub holder-fit : fitSlot c (slotAt t x) ≡ true
   holder-fit = top .fit
 
-  module _ {t′ : List ℕ} {near′ : Tree} (b : Below t t′ c down near near′) where
-    -- slots outside the near son and other than x stay
-    stay : (k : ℕ) → 1 ≤ k → times k near ≡ 0 → (k ≡ x → ⊥) → slotAt t′ k ≡ slotAt t k
-    stay k i z ne = b .slots k i z ∙ rw (ne-eqb k x ne)
-
-    slot-x : slotAt t′ x ≡ shape s (slotAt t x) (b .top) (son (slotAt t x) (other s)) (seen s (slotAt t x))
-    slot-x =
-        b .slots x (top .there) (omega (arith, total x, h .once x, same-one x x refl))
-        ∙ rw (eq-eqb x x refl)
-        (ap (withPart (sonOn s) (b .top)) (sym (shape-self s (slotAt t x))) ∙ near-son s (slotAt t x) _ _ _ (b .top))
-
-    -- a change below the son's link is one below the node's
-    pub above : Below t t′ c l (mk s d p near far) (mk s d p near′ far)
-    above =
-        let f = fit-from c (slotAt t x) (top .fit) s in
+  -- slot x with the son's link and the register beside it written, and all else outside the son as it was
+  module _ {t′ : List ℕ} (near′ : Tree) (y g : ℕ) (sized′ : Sized t′ c) (spells′ : Spells t′ c y near′) (good : linkOk c y g ≡ true)
+      (slot-x : slotAt t′ x ≡ shape s (slotAt t x) y (son (slotAt t x) (other s)) (pair g (seen s (slotAt t x) .far)))
+      (stay : (k : ℕ) → 1 ≤ k → times k near ≡ 0 → (k ≡ x → ⊥) → slotAt t′ k ≡ slotAt t k)
+      (root′ : word t′ rootWord ≡ word t rootWord) (head′ : (i : ℕ) → 1 ≤ i → i < 4 → word t′ i ≡ word t i) where
+    node-below : Below t t′ c l (mk s d p near far) (mk s d (pair g (p .far)) near′ far)
+    node-below =
         record {
-          sized = b .sized;
+          sized = sized′;
           top = x;
           first = top .there;
           most = h .most;
           spells = rw (top .registers)
-              (spell t′ c x d _ near′ far s (slotAt t x) (b .top) _ (top .there) slot-x
-              (f .other-links (b .top) _ _ (link-on c (b .top) _ (b .first) (b .most) (low-register c _ _ (f .near))) (f .far))
-              (top .holds) (b .spells)
+              (spell t′ c x d _ near′ far s (slotAt t x) y _ (top .there) slot-x
+              (fit-from c (slotAt t x) (top .fit) s .other-links y _ _ good (fit-from c (slotAt t x) (top .fit) s .far))
+              (top .holds) spells′
               (frame t t′ c _ far
               (λ k i. stay k (first-slot t c _ far (top .farSon) k i) (omega (arith, total k, h .once k))
               (λ q. omega (arith, total k, h .once k, same-one k x q)))
               (top .farSon)));
           slots = λ k i z. stay k i (omega (arith, total k)) (λ q. omega (arith, total k, same-one k x q)) ∙ steady t l k i;
-          root = b .root ∙ rw (ne-eqb x 0 (λ q. omega (arith, top .there))) (steady-root t l);
-          head = b .head;
+          root = root′ ∙ steady-root t l;
+          head = head′;
         }
+
+  not-root : eqb x 0 ≡ false
+  not-root = ne-eqb x 0 (λ q. omega (arith, top .there))
+
+  outside : times x near ≡ 0
+  outside = omega (arith, total x, h .once x, same-one x x refl)
+
+  module _ {t′ : List ℕ} where
+    -- a change below the son's link is one below the node's; where nothing is left there, the register beside it is 0
+    pub above-cut : (near′ : Tree) → Cut t t′ c down near near′
+        → Below t t′ c l (mk s d p near far) (mk s d (pair (beside (p .near) near′) (p .far)) near′ far)
+    unfolding Spells
+    above-cut leaf b =
+        let e : eqb (b .top) 0 ≡ true = rw (b .spells) refl in
+        let r = slotAt t x in
+        node-below leaf 0 0 (b .sized) refl (no-link c)
+        (b .slots x (top .there) outside
+        ∙ rw (e, eq-eqb x x refl)
+        (ap (λ y. withPart (registerOn s) 0 (withPart (sonOn s) 0 y)) (sym (shape-self s r))
+        ∙ ap (withPart (registerOn s) 0) (near-son s r _ _ _ 0) ∙ near-register s r _ _ _ 0))
+        (λ k i z ne. b .slots k i z ∙ rw (e, ne-eqb k x ne)) (b .root ∙ rw not-root) (b .head)
+    above-cut (node d′ a′ b′ l′ r′) b =
+        let e : eqb (b .top) 0 ≡ false = ne-eqb (b .top) 0 (λ q. omega (arith, b .spells .there)) in
+        let r = slotAt t x in
+        node-below (node d′ a′ b′ l′ r′) (b .top) (p .near) (b .sized) (b .spells)
+        (rw (top .registers) (link-on c (b .top) _ (b .spells .there) (b .most) (low-register c _ _ (fit-from c r (top .fit) s .near))))
+        (b .slots x (top .there) outside
+        ∙ rw (e, eq-eqb x x refl)
+        (ap (withPart (sonOn s) (b .top)) (sym (shape-self s r)) ∙ near-son s r _ _ _ (b .top) ∙ rw (top .registers) refl))
+        (λ k i z ne. b .slots k i z ∙ rw (e, ne-eqb k x ne)) (b .root ∙ rw not-root) (b .head)
+
+    pub above : (near′ : Tree) → Below t t′ c down near near′ → Below t t′ c l (mk s d p near far) (mk s d p near′ far)
+    unfolding Spells
+    above leaf b = absurd (omega (arith, b .first, b .spells))
+    above (node d′ a′ b′ l′ r′) b = above-cut (node d′ a′ b′ l′ r′) (below-cut b)
 
 -- the holder of a link is a fit slot, or it is the root's link
 abbrev pub Held : List ℕ → ℕ → Link → Type 0
@@ -143,7 +192,7 @@ same-along {t} {c} r (s ∷ way) l T S h g e =
     let held : Held t c (record { holder = word t (linkAt l); side = s })
     = by-bool (eqb (word t (linkAt l)) 0) (λ z. simp z) (λ z. simp z (holder-fit l s d p near far k)) in
     simp top-is
-    (hung-alike t _ _ s d p far (acceptAt way r near) _ (λ near′ t′ b. above l s d p near far k b)
+    (hung-alike t _ _ s d p far (acceptAt way r near) _ (λ near′ t′ b. above l s d p near far k near′ b)
     (same-along r way (record { holder = word t (linkAt l); side = s }) near S (hangs-down l s d p near far k) held q)))
     h
 
@@ -157,25 +206,17 @@ hangs-along {t} {c} (s ∷ way) l T S h e =
     (λ d p near far q k. hangs-along way (record { holder = word t (linkAt l); side = s }) near S (hangs-down l s d p near far k) q)
     h
 
--- a change below the link at the end of a way is one below the link where it begins
-on-hung : (s : Side) (d : Batch) (p : Pair) (far T′ : Tree) (o : Option Tree) → hung s d p o far ≡ some T′
-    → (P : Tree → Type 0) → ((near : Tree) → o ≡ some near → P (mk s d p near far)) → P T′
-on-hung s d p far T′ none e P k = no-tree e
-on-hung s d p far T′ (some near) e P k = let q : mk s d p near far ≡ T′ = cc in rw (← q) (k near refl)
-
-pub below-along : {t t′ : List ℕ} {c : ℕ} (way : List Side) (l : Link) (T S S′ T′ : Tree) → Hangs t c l T
-    → subtree way T ≡ some S
-    → plug way S′ T ≡ some T′ → Below t t′ c (linkAlong t way l) S S′ → Below t t′ c l T T′
-unfolding subtree plug linkAlong
-below-along [] l T S S′ T′ h e f b =
-    let q : T ≡ S = cc in
-    let r : T′ ≡ S′ = cc in
-    rw (q, r) b
-below-along {t} {t′} {c} (s ∷ way) l T S S′ T′ h e f b =
-    on-top s T S _ e
-    (λ X. Hangs t c l X → plug (s ∷ way) S′ X ≡ some T′ → Below t t′ c l X T′)
-    (λ d p near far q k g.
-    on-hung s d p far T′ (plug way S′ near) (simp top-is at g) (Below t t′ c l (mk s d p near far))
-    (λ near′ i. above l s d p near far k
-    (below-along way (record { holder = word t (linkAt l); side = s }) near S S′ near′ (hangs-down l s d p near far k) q i b)))
-    h f
+-- a change below the link at the end of the way to a key is one below the link where it begins
+pub cut-key : {t t′ : List ℕ} {c : ℕ} (key : ℕ) (f : Tree → Tree) (T : Tree) (l : Link) → Hangs t c l T
+    → Cut t t′ c (linkAlong t (route key T) l) (endOf key T) (f (endOf key T)) → Cut t t′ c l T (atKey key f T)
+unfolding route endOf atKey linkAlong
+cut-key key f leaf l h b = b
+cut-key {t} {t′} {c} key f (node d a b left right) l h cut =
+    by-key key f d a b left right
+    (λ w E U. Cut t t′ c (linkAlong t w l) E (f E) → Cut t t′ c l (node d a b left right) U)
+    (λ e k. k)
+    (λ e g k. below-cut (above-cut l Left d (pair a b) left right h (atKey key f left)
+    (cut-key key f left (record { holder = word t (linkAt l); side = Left }) (hangs-down l Left d (pair a b) left right h) k)))
+    (λ e g k. below-cut (above-cut l Right d (pair b a) right left h (atKey key f right)
+    (cut-key key f right (record { holder = word t (linkAt l); side = Right }) (hangs-down l Right d (pair b a) right left h) k)))
+    cut

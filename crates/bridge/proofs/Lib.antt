@@ -17,6 +17,7 @@ pub mod Seeks
 pub mod Quiets
 -- records amended and posted
 pub mod Keyed
+pub mod Lowest
 pub mod Grown
 pub mod Free
 pub mod Amends

@@ -29,7 +29,7 @@ use Rattle.tree.specs.Place.{subtree}
 use Rattle.tree.proofs.Steps.{on-top}
 use Rattle.tree.proofs.Sides.{times-mk}
 use Rattle.bridge.specs.Edit.{sonOn, Edit, edit, writes, edited, rooted}
-use Rattle.bridge.specs.Below.{Hangs, Below}
+use Rattle.bridge.specs.Below.{Hangs, Below, Cut}
 use Rattle.bridge.specs.Leads.{linkAlong}
 use Rattle.bridge.specs.Seek.{seek, route, endOf}
 use Rattle.bridge.specs.Settled.{Settled, Spelled}
@@ -37,12 +37,12 @@ use Rattle.bridge.proofs.Edited.{Rewritten, rewritten}
 use Rattle.bridge.proofs.Looks.{look}
 use Rattle.bridge.proofs.Outside.{same-one, first-slot, link-son}
 use Rattle.bridge.proofs.Wrote.{slot-here, slot-there, slot-head, slot-sized, head-slots}
-use Rattle.bridge.proofs.Along.{hangs-along, below-along}
+use Rattle.bridge.proofs.Along.{hangs-along, below-cut, cut-key}
 use Rattle.bridge.proofs.Ways.{same-none, leads-holder}
-use Rattle.bridge.proofs.Keyed.{end-there, end-plugged}
+use Rattle.bridge.proofs.Keyed.{end-there}
 use Rattle.bridge.proofs.Grown.{end-missing, grown, grown-times, grown-size, grown-ordered}
 use Rattle.bridge.proofs.Fires.{new-header}
-use Rattle.bridge.proofs.Settles.{settles}
+use Rattle.bridge.proofs.Settles.{settles, root-slots}
 
 -- a new leaf is fit
 fit-leaf : (c key pieces state : ℕ) → recordOk key pieces state ≡ true → fitSlot c (leafSlot key pieces state) ≡ true
@@ -170,10 +170,9 @@ module _ {t : List ℕ} {c : ℕ} (w : Whole t c) (key pieces state : ℕ) (ok :
         head = wrote .head;
       }
 
-  below-root : Below t₀ t₁ c rootLink T (grown new T)
-  below-root =
-      below-along way rootLink T (endOf key T) (node new 0 0 leaf leaf) (grown new T) still-hangs (end-there key T)
-      (end-plugged key (λ E. node new 0 0 leaf leaf) T) (rw (same-link, end-missing key T missing) leaf-below)
+  cut-root : Cut t₀ t₁ c rootLink T (grown new T)
+  cut-root =
+      cut-key key (λ E. node new 0 0 leaf leaf) T rootLink still-hangs (below-cut (rw (same-link, end-missing key T missing) leaf-below))
 
   header₀ : headerOk c t₀ ≡ true
   header₀ =
@@ -186,7 +185,7 @@ module _ {t : List ℕ} {c : ℕ} (w : Whole t c) (key pieces state : ℕ) (ok :
 
   stays : (j : ℕ) → 1 ≤ j → (j ≡ k → ⊥) → times j T ≡ 0 → slotAt t₁ j ≡ slotAt t j
   stays j i ne z =
-      below-root .slots j i z ∙ rw (ne-eqb j 0 (λ q. omega arith)) (slot-there (w .sized) k (leafSlot key pieces state) first most j i ne)
+      root-slots cut-root j i z ∙ slot-there (w .sized) k (leafSlot key pieces state) first most j i ne
 
   once′ : (j : ℕ) → 1 ≤ j → j ≤ c → times j (grown new T) ≤ 1
   once′ j a b =
@@ -219,7 +218,7 @@ module _ {t : List ℕ} {c : ℕ} (w : Whole t c) (key pieces state : ℕ) (ok :
       counts = omega (arith, grown-size new T missing, w .sound .count)
 
   pub posted-whole : Spelled t₂ c (grown new T)
-  posted-whole = settles header₀ below-root settled
+  posted-whole = settles header₀ cut-root settled
 
   pub posted-sized : Sized t₂ c
   posted-sized = settled .sized

@@ -5,4 +5,5 @@ pub mod Alike
 pub mod Leads
 pub mod Fired
 pub mod Seek
+pub mod Without
 pub mod Settled
