@@ -18,6 +18,7 @@ pub mod Quiets
 -- records amended and posted
 pub mod Keyed
 pub mod Lowest
+pub mod Relinks
 pub mod Grown
 pub mod Free
 pub mod Amends
