@@ -19,6 +19,9 @@ pub mod Quiets
 pub mod Keyed
 pub mod Lowest
 pub mod Relinks
+pub mod Follows
+pub mod Swaps
+pub mod Drops
 pub mod Grown
 pub mod Free
 pub mod Amends

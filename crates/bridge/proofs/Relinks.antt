@@ -1,10 +1,10 @@
 -- A link takes another slot or none, and the slot that hung there is blanked: what the slots then are. Assumes nothing.
 use Prim.Native.Nat.{ℕ, _+_, _≤_, _<_}
 use mathlib.Core.Path.{_≡_, refl, sym, _∙_, ap, subst}
-use mathlib.Core.Bool.{true, false, cond}
+use mathlib.Core.Bool.{false, cond, not, _||_}
 use mathlib.Core.List.{List, [], _∷_}
 use native.Mathlib.Omega.{arith}
-use lib.ListN.{set}
+use lib.ListN.{set, length-set}
 use lib.Dec.{eqb}
 use borrow.Author.Tests.{ne-eqb, eqb-true, eqb-false}
 use Rattle.scope.proofs.Bools.{by-bool}
@@ -31,8 +31,20 @@ use Rattle.bridge.specs.Without.{least, leastLink, withoutLeast}
 use Rattle.bridge.proofs.Edited.{Rewritten, rewritten}
 use Rattle.bridge.proofs.Looks.{Looks, look}
 use Rattle.bridge.proofs.Outside.{same-one, first-slot}
-use Rattle.bridge.proofs.Wrote.{slot-there, slot-head, slot-sized}
+use Rattle.bridge.proofs.Wrote.{slot-here, slot-there, slot-head, slot-sized}
 use Rattle.bridge.proofs.Along.{hangs-down, above-cut, below-cut}
+
+-- a slot that is blanked is blank
+relinked-sized : {t : List ℕ} {c : ℕ} (l : Link) (y : ℕ) → Sized t c → Sized (drop.relinked t l y) c
+unfolding drop.relinked
+relinked-sized l y z =
+    by-bool (not (eqb y 0) || eqb (l .holder) 0)
+    (λ e. rw e (record { room = simp length-set (z .room); some = z .some; most = z .most }))
+    (λ e. rw e (record { room = simp length-set (z .room); some = z .some; most = z .most }))
+
+pub lifted-blank : {t : List ℕ} {c : ℕ} (k : ℕ) (l : Link) (y : ℕ) → Sized t c → 1 ≤ k → k ≤ c
+    → slotAt (lifted t k l y) k ≡ zeroSlot
+lifted-blank k l y z i j = slot-here (relinked-sized l y z) k zeroSlot i j
 
 -- what a link that takes y leaves
 record Taken (t t₁ : List ℕ) (c : ℕ) (l : Link) (y : ℕ) : Type 0 where

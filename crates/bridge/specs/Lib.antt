@@ -6,4 +6,5 @@ pub mod Leads
 pub mod Fired
 pub mod Seek
 pub mod Without
+pub mod Planned
 pub mod Settled
