@@ -4,11 +4,13 @@ pub mod Edited
 pub mod Wrote
 pub mod Looks
 pub mod Outside
+-- changes below a link and at a key
+pub mod Keyed
+pub mod Along
 -- firings at a link, along a way, and on a sound table
 pub mod Turns
 pub mod Twice
 pub mod Aims
-pub mod Along
 pub mod Ways
 pub mod Fires
 pub mod Calls
@@ -16,14 +18,15 @@ pub mod Calls
 pub mod Seeks
 pub mod Quiets
 -- records amended and posted
-pub mod Keyed
-pub mod Lowest
-pub mod Relinks
-pub mod Follows
-pub mod Swaps
-pub mod Drops
 pub mod Grown
 pub mod Free
 pub mod Amends
 pub mod Settles
 pub mod Posts
+-- records dropped
+pub mod Lowest
+pub mod Relinks
+pub mod Follows
+pub mod Swaps
+pub mod Drops
+pub mod Dropped

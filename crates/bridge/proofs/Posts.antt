@@ -42,7 +42,7 @@ use Rattle.bridge.proofs.Ways.{same-none, leads-holder}
 use Rattle.bridge.proofs.Keyed.{end-there}
 use Rattle.bridge.proofs.Grown.{end-missing, grown, grown-times, grown-size, grown-ordered}
 use Rattle.bridge.proofs.Fires.{new-header}
-use Rattle.bridge.proofs.Settles.{settles, root-slots}
+use Rattle.bridge.proofs.Settles.{settles, root-slots, recounted-settled, recounted-change}
 
 -- a new leaf is fit
 fit-leaf : (c key pieces state : ℕ) → recordOk key pieces state ≡ true → fitSlot c (leafSlot key pieces state) ≡ true
@@ -197,25 +197,14 @@ module _ {t : List ℕ} {c : ℕ} (w : Whole t c) (key pieces state : ℕ) (ok :
   settled : Settled t₁ t₂ c (grown new T)
   unfolding hung
   settled =
-      let n = word t countWord + 1 in
-      let m = word t changeWord + 1 in
-      let u = set t₁ countWord n in
-      record {
-        sized = record { room = simp length-set (still-hangs .sized .room); some = w .sized .some; most = w .sized .most };
-        slots = λ j i. head-slots u changeWord m j (omega arith) i ∙ head-slots t₁ countWord n j (omega arith) i;
-        root = getD-set-other u changeWord rootWord m 0 (λ q. omega arith) ∙ getD-set-other t₁ countWord rootWord n 0 (λ q. omega arith);
-        zero = getD-set-other u changeWord zeroWord m 0 (λ q. omega arith) ∙ getD-set-other t₁ countWord zeroWord n 0 (λ q. omega arith);
-        count = counts ∙ sym (getD-set-other u changeWord countWord m 0 (λ q. omega arith) ∙ getD-set-same t₁ countWord n 0 (omega (arith, wrote .sized .room)));
-        room = omega (arith, grown-size new T missing);
-        once = once′;
-        order = grown-ordered new T missing (w .sound .order);
-        rest = λ j i b z. let ne : j ≡ k → ⊥ = λ q. omega (arith, grown-times new j T missing, same-one j k q) in
-            let none-there : times j T ≡ 0 = omega (arith, grown-times new j T missing) in
-            rw (stays j i ne none-there) (w .sound .rest j i b none-there);
-      }
-    where
-      counts : size (grown new T) ≡ word t countWord + 1
-      counts = omega (arith, grown-size new T missing, w .sound .count)
+      recounted-settled (wrote .sized) (word t countWord + 1) (word t changeWord + 1)
+      (omega (arith, grown-size new T missing, w .sound .count))
+      (omega (arith, grown-size new T missing))
+      once′
+      (grown-ordered new T missing (w .sound .order))
+      (λ j i b z. let ne : j ≡ k → ⊥ = λ q. omega (arith, grown-times new j T missing, same-one j k q) in
+      let none-there : times j T ≡ 0 = omega (arith, grown-times new j T missing) in
+      rw (stays j i ne none-there) (w .sound .rest j i b none-there))
 
   pub posted-whole : Spelled t₂ c (grown new T)
   posted-whole = settles header₀ cut-root settled
@@ -225,6 +214,4 @@ module _ {t : List ℕ} {c : ℕ} (w : Whole t c) (key pieces state : ℕ) (ok :
 
   pub posted-change : word t₂ changeWord ≡ word t changeWord + 1
   unfolding hung
-  posted-change =
-      getD-set-same (set t₁ countWord (word t countWord + 1)) changeWord (word t changeWord + 1) 0
-      (simp length-set (omega (arith, still-hangs .sized .room)))
+  posted-change = recounted-change (wrote .sized) (word t countWord + 1) (word t changeWord + 1)

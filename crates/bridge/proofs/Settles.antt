@@ -6,18 +6,19 @@ use mathlib.Core.Bool.{true}
 use mathlib.Core.List.{List}
 use native.Mathlib.Omega.{arith}
 use lib.ListN.{set, length-set}
-use lib.Seq.{getD-set-other}
+use lib.Seq.{getD-set-same, getD-set-other}
 use lib.Dec.{eqb}
 use borrow.Author.Tests.{ne-eqb}
 use Rattle.scope.proofs.Bools.{by-bool}
 use Rattle.scope.specs.Numbers.{rootLink}
 use Rattle.scope.specs.Table.{word, rootWord, countWord, changeWord, zeroWord, slotAt, withSlot, linkAt}
-use Rattle.scope.specs.Fit.{headerOk}
-use Rattle.scope.specs.Tree.{Batch, Tree, node, times}
+use Rattle.scope.specs.Fit.{headerOk, blankSlot}
+use Rattle.scope.specs.Tree.{Batch, Tree, node, size, times, Ordered}
 use Rattle.scope.specs.Sound.{Spells, Sound}
 use Rattle.scope.specs.Post.{recordOk}
 use Rattle.scope.specs.Amend.{withPieces}
 use Rattle.scope.specs.declared.side.Link.{Link}
+use Rattle.words.specs.Ready.{Sized}
 use Rattle.words.proofs.Laws.{header-count}
 use Rattle.sound.specs.Whole.{Whole}
 use Rattle.sound.proofs.Frame.{frame}
@@ -55,6 +56,35 @@ root-slots b k i z =
     b .slots k i z
     ∙ by-bool (eqb (b .top) 0)
     (λ e. rw (e, ne-eqb k 0 (λ q. omega arith)) refl) (λ e. rw (e, ne-eqb k 0 (λ q. omega arith)) refl)
+
+-- with another count and change number
+module _ {t₁ : List ℕ} {c : ℕ} (z : Sized t₁ c) (n m : ℕ) where
+  abbrev pub recounted : List ℕ
+  recounted = set (set t₁ countWord n) changeWord m
+
+  pub recounted-sized : Sized recounted c
+  recounted-sized = record { room = simp length-set (z .room); some = z .some; most = z .most }
+
+  pub recounted-change : word recounted changeWord ≡ m
+  recounted-change = getD-set-same (set t₁ countWord n) changeWord m 0 (simp length-set (omega (arith, z .room)))
+
+  pub recounted-settled : {T : Tree} → size T ≡ n → size T ≤ c → ((k : ℕ) → 1 ≤ k → k ≤ c → times k T ≤ 1) → Ordered T
+      → ((k : ℕ) → 1 ≤ k → k ≤ c → times k T ≡ 0 → blankSlot (slotAt t₁ k) ≡ true)
+      → Settled t₁ recounted c T
+  recounted-settled count room once order rest =
+      let u = set t₁ countWord n in
+      record {
+        sized = recounted-sized;
+        slots = λ j i. head-slots u changeWord m j (omega arith) i ∙ head-slots t₁ countWord n j (omega arith) i;
+        root = getD-set-other u changeWord rootWord m 0 (λ q. omega arith) ∙ getD-set-other t₁ countWord rootWord n 0 (λ q. omega arith);
+        zero = getD-set-other u changeWord zeroWord m 0 (λ q. omega arith) ∙ getD-set-other t₁ countWord zeroWord n 0 (λ q. omega arith);
+        count = count
+            ∙ sym (getD-set-other u changeWord countWord m 0 (λ q. omega arith) ∙ getD-set-same t₁ countWord n 0 (omega (arith, z .room)));
+        room = room;
+        once = once;
+        order = order;
+        rest = rest;
+      }
 
 -- the record of a key is amended
 module _ {t : List ℕ} {c : ℕ} (w : Whole t c) (key pieces state : ℕ) (ok : recordOk key pieces state ≡ true) (d : Batch)
