@@ -25,7 +25,6 @@ use Rattle.bridge.specs.Without.{withoutTop, withoutKey}
 use Rattle.bridge.specs.Planned.{Freed, Planned}
 use Rattle.bridge.specs.Settled.{Spelled}
 use Rattle.bridge.proofs.Seeks.{visits-high}
-use Rattle.bridge.proofs.Outside.{same-one}
 use Rattle.bridge.proofs.Ways.{same-none}
 use Rattle.bridge.proofs.Along.{hangs-along, cut-key}
 use Rattle.bridge.proofs.Keyed.{end-there, end-found, at-times, at-size, at-ordered}

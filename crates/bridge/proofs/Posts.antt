@@ -6,13 +6,12 @@ use mathlib.Core.Option.{none, some}
 use mathlib.Core.List.{List, [], _∷_}
 use native.Mathlib.Omega.{arith}
 use native.Mathlib.Decide.{ℕ-discrete}
-use lib.ListN.{set, length-set}
-use lib.Seq.{getD-set-other, getD-set-same}
+use lib.ListN.{set}
 use lib.Dec.{eqb}
 use borrow.Author.Tests.{ne-eqb, le-leb}
 use Rattle.scope.proofs.Bools.{and-l, and-r}
 use Rattle.scope.specs.Numbers.{rootLink}
-use Rattle.scope.specs.Table.{word, rootWord, countWord, changeWord, zeroWord, slotAt, withSlot, linkAt, written}
+use Rattle.scope.specs.Table.{word, rootWord, countWord, changeWord, slotAt, withSlot, linkAt, written}
 use Rattle.scope.specs.Fit.{stateOk, piecesOk, linkOk, fitSlot, headerOk}
 use Rattle.scope.specs.Tree.{Batch, Tree, leaf, node, size, times, same}
 use Rattle.scope.specs.Sound.{Spells}
@@ -36,7 +35,7 @@ use Rattle.bridge.specs.Settled.{Settled, Spelled}
 use Rattle.bridge.proofs.Edited.{Rewritten, rewritten}
 use Rattle.bridge.proofs.Looks.{look}
 use Rattle.bridge.proofs.Outside.{same-one, first-slot, link-son}
-use Rattle.bridge.proofs.Wrote.{slot-here, slot-there, slot-head, slot-sized, head-slots}
+use Rattle.bridge.proofs.Wrote.{slot-here, slot-there, slot-head, slot-sized}
 use Rattle.bridge.proofs.Along.{hangs-along, below-cut, cut-key}
 use Rattle.bridge.proofs.Ways.{same-none, leads-holder}
 use Rattle.bridge.proofs.Keyed.{end-there}

@@ -6,10 +6,10 @@ use mathlib.Core.List.{List, [], _∷_}
 use native.Mathlib.Omega.{arith}
 use lib.ListN.{set, length-set}
 use lib.Dec.{eqb}
-use borrow.Author.Tests.{ne-eqb, eqb-true, eqb-false}
+use borrow.Author.Tests.{ne-eqb, eqb-true}
 use Rattle.scope.proofs.Bools.{by-bool}
 use Rattle.scope.specs.Numbers.{other}
-use Rattle.scope.specs.Table.{word, rootWord, slotAt, withSlot, son, linkAt, registerAt, written}
+use Rattle.scope.specs.Table.{word, rootWord, slotAt, son, linkAt, registerAt, written}
 use Rattle.scope.specs.Fit.{zeroSlot}
 use Rattle.scope.specs.Tree.{Batch, Tree, leaf, node, times, same}
 use Rattle.scope.specs.Sound.{Spells}

@@ -1,38 +1,28 @@
 -- A node with two sons takes the leftmost record on its right, which is lifted out: on words and on the tree. Assumes nothing.
-use Prim.Native.Nat.{ℕ, _+_, _-_, _≤_}
-use mathlib.Core.Path.{_≡_, refl, sym, _∙_, ap, subst}
-use mathlib.Core.Bool.{true, false}
+use Prim.Native.Nat.{ℕ, _+_, _≤_}
+use mathlib.Core.Path.{_≡_, refl, sym, ap, subst}
 use mathlib.Core.List.{List}
 use native.Mathlib.Omega.{arith}
-use lib.Dec.{eqb}
-use borrow.Author.Tests.{ne-eqb}
-use Rattle.scope.specs.Numbers.{other}
-use Rattle.scope.specs.Table.{word, slotAt, withSlot, son, linkAt}
+use Rattle.scope.specs.Table.{word, slotAt, withSlot, linkAt}
 use Rattle.scope.specs.Fit.{zeroSlot}
-use Rattle.scope.specs.Tree.{Batch, Tree, leaf, node, times, same, trueHeight}
+use Rattle.scope.specs.Tree.{Batch, Tree, node, times, same}
 use Rattle.scope.specs.Sound.{Spells}
 use Rattle.scope.specs.Rules.{pair}
-use Rattle.scope.specs.Drop.{withRecord, lifted, replaced, dropAt}
-use Rattle.scope.specs.declared.rule.Pair.{Pair}
-use Rattle.scope.specs.declared.side.Side.{Side}
-use Rattle.scope.specs.declared.side.Side.the-variants.{Left, Right}
+use Rattle.scope.specs.Drop.{withRecord, lifted, replaced}
+use Rattle.scope.specs.declared.side.Side.the-variants.{Right}
 use Rattle.scope.specs.declared.side.Link.{Link}
 use Rattle.scope.specs.declared.slot.Slot.{Slot}
-use Rattle.scope.specs.declared.outcome.Dropping.the-variants.{Lift, Replace}
 use Rattle.words.proofs.Laws.{fit-right}
-use Rattle.tree.specs.Rewrite.{mk}
-use Rattle.tree.proofs.Sides.{times-mk}
 use Rattle.bridge.specs.Below.{Hangs, Below, Cut}
 use Rattle.bridge.specs.Seek.{beside}
-use Rattle.bridge.specs.Without.{least, leastLink, withoutLeast, inSlot, withoutTop}
-use Rattle.bridge.specs.Planned.{Freed, Plans, lifts, moves, Planned}
+use Rattle.bridge.specs.Without.{least, leastLink, withoutLeast, inSlot}
 use Rattle.bridge.proofs.Outside.{same-one}
 use Rattle.bridge.proofs.Wrote.{slot-there}
 use Rattle.bridge.proofs.Along.{hangs-down, above-cut, below-cut}
 use Rattle.bridge.proofs.Lowest.{least-times}
 use Rattle.bridge.proofs.Amends.{at, here-fit, record-ok, record-below}
-use Rattle.bridge.proofs.Relinks.{lifted-blank, lift-cut, least-cut}
-use Rattle.bridge.proofs.Follows.{hangs-after, below-then, Stands, least-stands, least-walk}
+use Rattle.bridge.proofs.Relinks.{lifted-blank, least-cut}
+use Rattle.bridge.proofs.Follows.{hangs-after, below-then, Stands, least-stands}
 
 -- with two sons: the leftmost record on the right goes into the slot, and is lifted out of its own
 module _ {t : List ℕ} {c : ℕ} (l : Link) (d : Batch) (a b : ℕ) (L : Tree) (g : Batch) (u v : ℕ) (p q : Tree)

@@ -13,6 +13,7 @@ pub mod Answers
 pub mod Ranks
 pub mod Amending
 pub mod Posting
+pub mod Dropping
 pub mod Firing
 pub mod Stuck
 -- the promises exclude what does nothing
