@@ -15,6 +15,7 @@ pub mod Amending
 pub mod Posting
 pub mod Dropping
 pub mod Firing
+pub mod Sequence
 pub mod Stuck
 -- the promises exclude what does nothing
 pub mod Teeth

@@ -3,3 +3,4 @@ pub mod Fires
 pub mod Short
 pub mod Listed
 pub mod Ledgers
+pub mod Sequence
