@@ -72,7 +72,8 @@ module _ (c : ℕ) (x : Slot) (e : fitSlot c x ≡ true) where
       )
 
 -- another record in the slot, at the link where it hangs
-module _ {t : List ℕ} {c : ℕ} (l : Link) (d : Batch) (a b : ℕ) (left right : Tree) (h : Hangs t c l (node d a b left right)) where
+module _ {t : List ℕ} {c : ℕ} (l : Link) (d : Batch) (a b : ℕ) (left right : Tree)
+    (h : Hangs t c l (node d a b left right)) where
   abbrev x : ℕ
   x = word t (linkAt l)
 
@@ -80,13 +81,13 @@ module _ {t : List ℕ} {c : ℕ} (l : Link) (d : Batch) (a b : ℕ) (left right
   unfolding Spells
   there = h .spells .there
 
-  pub at : d .slot ≡ x
+  pub top-slot : d .slot ≡ x
   unfolding Spells
-  at = ap (λ (e : Batch). e .slot) (h .spells .holds)
+  top-slot = ap (λ (e : Batch). e .slot) (h .spells .holds)
 
   total : (k : ℕ) → times k (node d a b left right) ≡ same k x + (times k left + times k right)
   unfolding times
-  total k = rw at refl
+  total k = rw top-slot refl
 
   pub here-fit : fitSlot c (slotAt t x) ≡ true
   unfolding Spells
@@ -105,6 +106,9 @@ module _ {t : List ℕ} {c : ℕ} (l : Link) (d : Batch) (a b : ℕ) (left right
     others : (k : ℕ) → 1 ≤ k → (k ≡ x → ⊥) → slotAt t′ k ≡ slotAt t k
     others k i ne = slot-there (h .sized) x y there (h .most) k i ne
 
+    son-stays : (z : ℕ) (S : Tree) → ((k : ℕ) → 1 ≤ times k S → k ≡ x → ⊥) → Spells t c z S → Spells t′ c z S
+    son-stays z S away p = frame t t′ c z S (λ k i. others k (first-slot t c z S p k i) (away k i)) p
+
     record-spells : Spells t′ c x (node new a b left right)
     unfolding Spells
     record-spells =
@@ -116,10 +120,8 @@ module _ {t : List ℕ} {c : ℕ} (l : Link) (d : Batch) (a b : ℕ) (left right
           holds = rw e refl;
           lefth = rw e (p .lefth);
           righth = rw e (p .righth);
-          left = rw e (frame t t′ c (slotAt t x .left) left
-              (λ k i. others k (first-slot t c _ left (p .left) k i) (λ q. omega (arith, total k, h .once k, same-one k x q))) (p .left));
-          right = rw e (frame t t′ c (slotAt t x .right) right
-              (λ k i. others k (first-slot t c _ right (p .right) k i) (λ q. omega (arith, total k, h .once k, same-one k x q))) (p .right));
+          left = rw e (son-stays (slotAt t x .left) left (λ k i q. omega (arith, total k, h .once k, same-one k x q)) (p .left));
+          right = rw e (son-stays (slotAt t x .right) right (λ k i q. omega (arith, total k, h .once k, same-one k x q)) (p .right));
         }
 
     pub record-below : Below t t′ c l (node d a b left right) (node new a b left right)
@@ -137,7 +139,8 @@ module _ {t : List ℕ} {c : ℕ} (l : Link) (d : Batch) (a b : ℕ) (left right
 
   -- other pieces and another state
   pub amend-below : (key pieces state : ℕ) → recordOk key pieces state ≡ true
-      → Below t (withSlot t x (withPieces (slotAt t x) pieces state)) c l (node d a b left right) (amendTop pieces state (node d a b left right))
+      → Below t (withSlot t x (withPieces (slotAt t x) pieces state)) c l (node d a b left right)
+      (amendTop pieces state (node d a b left right))
   unfolding amendTop Spells
   amend-below key pieces state ok =
       subst (λ (e : Batch). Below t (withSlot t x (withPieces (slotAt t x) pieces state)) c l (node d a b left right)

@@ -34,7 +34,8 @@ unfolding withPart shape
 part-twice Left n m z = refl
 part-twice Right n m z = refl
 
-module _ {t t′ : List ℕ} {c : ℕ} {l : Link} {S S′ : Tree} (b : Below t t′ c l S S′) (keeps : (k : ℕ) → times k S′ ≡ times k S) where
+module _ {t t′ : List ℕ} {c : ℕ} {l : Link} {S S′ : Tree} (b : Below t t′ c l S S′)
+    (keeps : (k : ℕ) → times k S′ ≡ times k S) where
   -- what hangs at the link afterwards
   link-top : times (l .holder) S ≡ 0 → word t′ (linkAt l) ≡ b .top
   unfolding linkAt

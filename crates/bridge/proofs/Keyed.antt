@@ -50,7 +50,8 @@ by-key key f d a b l r P here left right =
 
 -- what the change adds to the end or takes from it, it adds to the tree or takes from it
 module _ (key : ℕ) (f : Tree → Tree) where
-  pub at-times : (k : ℕ) (T : Tree) → times k (atKey key f T) + times k (endOf key T) ≡ times k T + times k (f (endOf key T))
+  pub at-times : (k : ℕ) (T : Tree)
+      → times k (atKey key f T) + times k (endOf key T) ≡ times k T + times k (f (endOf key T))
   unfolding times
   at-times k leaf = unfold atKey endOf times in omega arith
   at-times k (node d a b l r) =
@@ -65,20 +66,23 @@ module _ (key : ℕ) (f : Tree → Tree) where
       (λ e. omega arith) (λ e g. omega (arith, at-size l)) (λ e g. omega (arith, at-size r))
 
   -- one that keeps order and bounds there keeps them in the tree
-  module _ (below : (m : ℕ) (E : Tree) → Below m E → Below m (f E)) (above : (m : ℕ) (E : Tree) → Above m E → Above m (f E)) where
+  module _ (below : (m : ℕ) (E : Tree) → Below m E → Below m (f E))
+      (above : (m : ℕ) (E : Tree) → Above m E → Above m (f E)) where
     at-below : (m : ℕ) (T : Tree) → Below m T → Below m (atKey key f T)
     unfolding Below
     at-below m leaf h = unfold atKey in below m leaf h
     at-below m (node d a b l r) h =
         by-key key f d a b l r (λ w E U. Below m U)
-        (λ e. below m (node d a b l r) h) (λ e g. (h .0, at-below m l (h .1), h .2)) (λ e g. (h .0, h .1, at-below m r (h .2)))
+        (λ e. below m (node d a b l r) h)
+        (λ e g. (h .0, at-below m l (h .1), h .2)) (λ e g. (h .0, h .1, at-below m r (h .2)))
 
     at-above : (m : ℕ) (T : Tree) → Above m T → Above m (atKey key f T)
     unfolding Above
     at-above m leaf h = unfold atKey in above m leaf h
     at-above m (node d a b l r) h =
         by-key key f d a b l r (λ w E U. Above m U)
-        (λ e. above m (node d a b l r) h) (λ e g. (h .0, at-above m l (h .1), h .2)) (λ e g. (h .0, h .1, at-above m r (h .2)))
+        (λ e. above m (node d a b l r) h)
+        (λ e g. (h .0, at-above m l (h .1), h .2)) (λ e g. (h .0, h .1, at-above m r (h .2)))
 
     pub at-ordered : ((E : Tree) → Ordered E → Ordered (f E)) → (T : Tree) → Ordered T → Ordered (atKey key f T)
     unfolding Ordered

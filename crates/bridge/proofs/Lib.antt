@@ -6,6 +6,7 @@ pub mod Looks
 pub mod Outside
 -- changes below a link and at a key
 pub mod Keyed
+pub mod Above
 pub mod Along
 -- firings at a link, along a way, and on a sound table
 pub mod Turns

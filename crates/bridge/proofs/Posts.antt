@@ -36,7 +36,8 @@ use Rattle.bridge.proofs.Edited.{Rewritten, rewritten}
 use Rattle.bridge.proofs.Looks.{look}
 use Rattle.bridge.proofs.Outside.{same-one, first-slot, link-son}
 use Rattle.bridge.proofs.Wrote.{slot-here, slot-there, slot-head, slot-sized}
-use Rattle.bridge.proofs.Along.{hangs-along, below-cut, cut-key}
+use Rattle.bridge.proofs.Above.{below-cut}
+use Rattle.bridge.proofs.Along.{hangs-along, cut-key}
 use Rattle.bridge.proofs.Ways.{same-none, leads-holder}
 use Rattle.bridge.proofs.Keyed.{end-there}
 use Rattle.bridge.proofs.Grown.{end-missing, grown, grown-times, grown-size, grown-ordered}
@@ -171,7 +172,8 @@ module _ {t : List ℕ} {c : ℕ} (w : Whole t c) (key pieces state : ℕ) (ok :
 
   cut-root : Cut t₀ t₁ c rootLink T (grown new T)
   cut-root =
-      cut-key key (λ E. node new 0 0 leaf leaf) T rootLink still-hangs (below-cut (rw (same-link, end-missing key T missing) leaf-below))
+      cut-key key (λ E. node new 0 0 leaf leaf) T rootLink still-hangs
+      (below-cut (rw (same-link, end-missing key T missing) leaf-below))
 
   header₀ : headerOk c t₀ ≡ true
   header₀ =

@@ -32,7 +32,7 @@ use Rattle.bridge.proofs.Edited.{Rewritten, rewritten}
 use Rattle.bridge.proofs.Looks.{Looks, look}
 use Rattle.bridge.proofs.Outside.{same-one, first-slot}
 use Rattle.bridge.proofs.Wrote.{slot-here, slot-there, slot-head, slot-sized}
-use Rattle.bridge.proofs.Along.{hangs-down, above-cut, below-cut}
+use Rattle.bridge.proofs.Above.{hangs-down, above-cut, below-cut}
 
 -- a slot that is blanked is blank
 relinked-sized : {t : List ℕ} {c : ℕ} (l : Link) (y : ℕ) → Sized t c → Sized (drop.relinked t l y) c
@@ -64,7 +64,8 @@ module _ {t : List ℕ} {c : ℕ} (z : Sized t c) (l : Link) (held : l .holder �
 
   -- and the register beside it
   both : eqb h 0 ≡ false
-      → Rewritten t (set (set t (linkAt l) y) (registerAt h (l .side)) 0) c (edit h (sonOn (l .side)) y ∷ edit h (registerOn (l .side)) 0 ∷ [])
+      → Rewritten t (set (set t (linkAt l) y) (registerAt h (l .side)) 0) c
+      (edit h (sonOn (l .side)) y ∷ edit h (registerOn (l .side)) 0 ∷ [])
   unfolding written writes linkAt
   both e =
       let es = edit h (sonOn (l .side)) y ∷ edit h (registerOn (l .side)) 0 ∷ [] in
@@ -84,7 +85,8 @@ module _ {t : List ℕ} {c : ℕ} (z : Sized t c) (l : Link) (held : l .holder �
       }))
       (λ g. rw (e, g) (record {
         sized = both g .sized;
-        slots = λ k i. both g .slots k i ∙ by-bool (eqb k h) (λ q. rw (e, q, eqb-true y 0 e) refl) (λ q. rw (e, q) refl);
+        slots = λ k i. both g .slots k i
+            ∙ by-bool (eqb k h) (λ q. rw (e, q, eqb-true y 0 e) refl) (λ q. rw (e, q) refl);
         root = both g .root ∙ rw g refl;
         head = both g .head;
       })))
@@ -96,7 +98,8 @@ module _ {t : List ℕ} {c : ℕ} (z : Sized t c) (l : Link) (held : l .holder �
       }))
 
 -- a node with no son on one side is lifted out: its other son takes its place
-module _ {t : List ℕ} {c : ℕ} (l : Link) (s : Side) (d : Batch) (p : Pair) (far : Tree) (h : Hangs t c l (mk s d p leaf far)) where
+module _ {t : List ℕ} {c : ℕ} (l : Link) (s : Side) (d : Batch) (p : Pair) (far : Tree)
+    (h : Hangs t c l (mk s d p leaf far)) where
   abbrev x : ℕ
   x = word t (linkAt l)
 
@@ -119,7 +122,8 @@ module _ {t : List ℕ} {c : ℕ} (l : Link) (s : Side) (d : Batch) (p : Pair) (
   inside : (k : ℕ) → 1 ≤ times k far → slotAt (lifted t x l y) k ≡ slotAt t k
   inside k i =
       let first = first-slot t c y far (top .farSon) k i in
-      let ne : eqb k (l .holder) ≡ false = ne-eqb k (l .holder) (λ q. omega (arith, total k, h .apart, ap (λ (j : ℕ). times j (mk s d p leaf far)) q)) in
+      let ne : eqb k (l .holder) ≡ false = ne-eqb k (l .holder)
+      (λ q. omega (arith, total k, h .apart, ap (λ (j : ℕ). times j (mk s d p leaf far)) q)) in
       others k first (λ q. omega (arith, total k, h .once k, same-one k x q)) ∙ took .slots k first
       ∙ by-bool (eqb y 0) (λ e. rw (e, ne) refl) (λ e. rw (e, ne) refl)
 
@@ -142,11 +146,15 @@ pub least-cut : {t : List ℕ} {c : ℕ} (k : Link) (d : Batch) (a b : ℕ) (l r
 unfolding Spells least leastLink withoutLeast
 least-cut {t} {c} k d a b leaf r h =
     let at : word t (linkAt k) ≡ d .slot = ap (λ (e : Batch). e .slot) (sym (h .spells .holds)) in
-    subst (λ (j : ℕ). Cut t (lifted t j k (slotAt t j .right)) c k (node d a b leaf r) r) at (lift-cut k Left d (pair a b) r h)
+    subst (λ (j : ℕ). Cut t (lifted t j k (slotAt t j .right)) c k (node d a b leaf r) r) at
+    (lift-cut k Left d (pair a b) r h)
 least-cut {t} {c} k d a b (node e x y l m) r h =
     let at : word t (linkAt k) ≡ d .slot = ap (λ (e : Batch). e .slot) (sym (h .spells .holds)) in
     let on : ℕ → Link = λ j. record { holder = j; side = Left } in
-    let hangs : Hangs t c (on (d .slot)) (node e x y l m) = subst (λ (j : ℕ). Hangs t c (on j) (node e x y l m)) at (hangs-down k Left d (pair a b) (node e x y l m) r h) in
-    let cut = least-cut (on (d .slot)) e x y l m hangs in
-    below-cut (above-cut k Left d (pair a b) (node e x y l m) r h (withoutLeast e x y l m)
-    (subst (λ (j : ℕ). Cut t (lifted t (least e l .slot) (leastLink (on (d .slot)) e l) (slotAt t (least e l .slot) .right)) c (on j) (node e x y l m) (withoutLeast e x y l m)) (sym at) cut))
+    let L = node e x y l m in
+    let hangs : Hangs t c (on (d .slot)) L
+    = subst (λ (j : ℕ). Hangs t c (on j) L) at (hangs-down k Left d (pair a b) L r h) in
+    let after : List ℕ = lifted t (least e l .slot) (leastLink (on (d .slot)) e l) (slotAt t (least e l .slot) .right) in
+    below-cut (above-cut k Left d (pair a b) L r h (withoutLeast e x y l m)
+    (subst (λ (j : ℕ). Cut t after c (on j) L (withoutLeast e x y l m)) (sym at)
+    (least-cut (on (d .slot)) e x y l m hangs)))

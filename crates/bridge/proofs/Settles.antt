@@ -29,7 +29,8 @@ use Rattle.bridge.specs.Seek.{seek, route, endOf, amendTop}
 use Rattle.bridge.specs.Settled.{Settled, Spelled}
 use Rattle.bridge.proofs.Outside.{first-slot}
 use Rattle.bridge.proofs.Wrote.{head-slots}
-use Rattle.bridge.proofs.Along.{hangs-along, below-cut, cut-key}
+use Rattle.bridge.proofs.Above.{below-cut}
+use Rattle.bridge.proofs.Along.{hangs-along, cut-key}
 use Rattle.bridge.proofs.Keyed.{end-there, end-found, amendedTree, amended-times, amended-size, amended-ordered}
 use Rattle.bridge.proofs.Amends.{amend-below}
 use Rattle.bridge.proofs.Fires.{hangs-root, new-header}
@@ -65,6 +66,9 @@ module _ {t₁ : List ℕ} {c : ℕ} (z : Sized t₁ c) (n m : ℕ) where
   pub recounted-sized : Sized recounted c
   recounted-sized = record { room = simp length-set (z .room); some = z .some; most = z .most }
 
+  others : (i : ℕ) → (i ≡ countWord → ⊥) → (i ≡ changeWord → ⊥) → word recounted i ≡ word t₁ i
+  others i p q = getD-set-other (set t₁ countWord n) changeWord i m 0 q ∙ getD-set-other t₁ countWord i n 0 p
+
   pub recounted-change : word recounted changeWord ≡ m
   recounted-change = getD-set-same (set t₁ countWord n) changeWord m 0 (simp length-set (omega (arith, z .room)))
 
@@ -76,10 +80,11 @@ module _ {t₁ : List ℕ} {c : ℕ} (z : Sized t₁ c) (n m : ℕ) where
       record {
         sized = recounted-sized;
         slots = λ j i. head-slots u changeWord m j (omega arith) i ∙ head-slots t₁ countWord n j (omega arith) i;
-        root = getD-set-other u changeWord rootWord m 0 (λ q. omega arith) ∙ getD-set-other t₁ countWord rootWord n 0 (λ q. omega arith);
-        zero = getD-set-other u changeWord zeroWord m 0 (λ q. omega arith) ∙ getD-set-other t₁ countWord zeroWord n 0 (λ q. omega arith);
+        root = others rootWord (λ q. omega arith) (λ q. omega arith);
+        zero = others zeroWord (λ q. omega arith) (λ q. omega arith);
         count = count
-            ∙ sym (getD-set-other u changeWord countWord m 0 (λ q. omega arith) ∙ getD-set-same t₁ countWord n 0 (omega (arith, z .room)));
+            ∙ sym (getD-set-other u changeWord countWord m 0 (λ q. omega arith)
+            ∙ getD-set-same t₁ countWord n 0 (omega (arith, z .room)));
         room = room;
         once = once;
         order = order;
@@ -112,7 +117,8 @@ module _ {t : List ℕ} {c : ℕ} (w : Whole t c) (key pieces state : ℕ) (ok :
   cut-root : Cut t t₁ c rootLink T (amendedTree key pieces state T)
   cut-root =
       cut-key key (amendTop pieces state) T rootLink (hangs-root w)
-      (below-cut (end-found key T d found (λ E. Hangs t c l E → Below t t₁ c l E (amendTop pieces state E)) here at-end))
+      (below-cut
+      (end-found key T d found (λ E. Hangs t c l E → Below t t₁ c l E (amendTop pieces state E)) here at-end))
 
   pub amended-whole : Spelled (set t₁ changeWord n) c (amendedTree key pieces state T)
   amended-whole =

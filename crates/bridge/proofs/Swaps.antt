@@ -1,4 +1,4 @@
--- A node with two sons takes the leftmost record on its right, which is lifted out: on words and on the tree. Assumes nothing.
+-- A node with two sons takes the leftmost record on its right, which is lifted out there. Assumes nothing.
 use Prim.Native.Nat.{ℕ, _+_, _≤_}
 use mathlib.Core.Path.{_≡_, refl, sym, ap, subst}
 use mathlib.Core.List.{List}
@@ -18,9 +18,9 @@ use Rattle.bridge.specs.Seek.{beside}
 use Rattle.bridge.specs.Without.{least, leastLink, withoutLeast, inSlot}
 use Rattle.bridge.proofs.Outside.{same-one}
 use Rattle.bridge.proofs.Wrote.{slot-there}
-use Rattle.bridge.proofs.Along.{hangs-down, above-cut, below-cut}
+use Rattle.bridge.proofs.Above.{hangs-down, above-cut, below-cut}
 use Rattle.bridge.proofs.Lowest.{least-times}
-use Rattle.bridge.proofs.Amends.{at, here-fit, record-ok, record-below}
+use Rattle.bridge.proofs.Amends.{top-slot, here-fit, record-ok, record-below}
 use Rattle.bridge.proofs.Relinks.{lifted-blank, least-cut}
 use Rattle.bridge.proofs.Follows.{hangs-after, below-then, Stands, least-stands}
 
@@ -65,12 +65,13 @@ module _ {t : List ℕ} {c : ℕ} (l : Link) (d : Batch) (a b : ℕ) (L : Tree) 
 
   total : (j : ℕ) → times j (node d a b L R) ≡ same j x + (times j L + (same j k + times j R′))
   unfolding times
-  total j = rw (at l d a b L R h) (omega (arith, least-times j g u v p q))
+  total j = rw (top-slot l d a b L R h) (omega (arith, least-times j g u v p q))
 
   apart : k ≡ x → ⊥
   apart e = omega (arith, total k, h .once k, same-one k x e, same-one k k refl)
 
-  moved : inSlot x m ≡ record { slot = x; key = slotAt t k .key; pieces = slotAt t k .pieces; state = slotAt t k .state }
+  moved : inSlot x m
+      ≡ record { slot = x; key = slotAt t k .key; pieces = slotAt t k .pieces; state = slotAt t k .state }
   moved = ap (inSlot x) (stands .holds)
 
   first : Below t t₀ c l (node d a b L R) (node (inSlot x m) a b L R)
@@ -78,7 +79,7 @@ module _ {t : List ℕ} {c : ℕ} (l : Link) (d : Batch) (a b : ℕ) (L : Tree) 
 
   keeps : (j : ℕ) → times j (node (inSlot x m) a b L R) ≡ times j (node d a b L R)
   unfolding times
-  keeps j = rw (at l d a b L R h) refl
+  keeps j = rw (top-slot l d a b L R h) refl
 
   h₀ : Hangs t₀ c l (node (inSlot x m) a b L R)
   h₀ = hangs-after first keeps h
@@ -92,9 +93,11 @@ module _ {t : List ℕ} {c : ℕ} (l : Link) (d : Batch) (a b : ℕ) (L : Tree) 
 
   least-goes : Cut t₀ t₁ c (on (word t₀ (linkAt l))) R R′
   least-goes =
-      let is : x ≡ word t₀ (linkAt l) = at l (inSlot x m) a b L R h₀ in
-      let hangs : Hangs t₀ c (on x) R = subst (λ (j : ℕ). Hangs t₀ c (on j) R) (sym is) (hangs-down l Right (inSlot x m) (pair b a) R L h₀) in
-      let cut : Cut t₀ (lifted t₀ k (leastLink (on x) g p) (slotAt t₀ k .right)) c (on x) R R′ = least-cut (on x) g u v p q hangs in
+      let is : x ≡ word t₀ (linkAt l) = top-slot l (inSlot x m) a b L R h₀ in
+      let hangs : Hangs t₀ c (on x) R
+      = subst (λ (j : ℕ). Hangs t₀ c (on j) R) (sym is) (hangs-down l Right (inSlot x m) (pair b a) R L h₀) in
+      let cut : Cut t₀ (lifted t₀ k (leastLink (on x) g p) (slotAt t₀ k .right)) c (on x) R R′
+      = least-cut (on x) g u v p q hangs in
       subst (λ (j : ℕ). Cut t₀ t₁ c (on j) R R′) is
       (subst (λ (z : Slot). Cut t₀ (lifted t₀ k (leastLink (on x) g p) (z .right)) c (on x) R R′) same-least cut)
 
@@ -111,9 +114,9 @@ module _ {t : List ℕ} {c : ℕ} (l : Link) (d : Batch) (a b : ℕ) (L : Tree) 
   pub swap-cut : Cut t (after (d .slot)) c l (node d a b L R) (node (inSlot (d .slot) m) a (beside b R′) L R′)
   swap-cut =
       subst (λ (j : ℕ). Cut t (after j) c l (node d a b L R) (node (inSlot j m) a (beside b R′) L R′))
-      (sym (at l d a b L R h)) (below-cut swapped)
+      (sym (top-slot l d a b L R h)) (below-cut swapped)
 
   pub swap-blank : slotAt (after (d .slot)) k ≡ zeroSlot
   swap-blank =
-      subst (λ (j : ℕ). slotAt (after j) k ≡ zeroSlot) (sym (at l d a b L R h))
+      subst (λ (j : ℕ). slotAt (after j) k ≡ zeroSlot) (sym (top-slot l d a b L R h))
       (lifted-blank k (leastLink (on x) g p) (slotAt t k .right) (first .sized) (stands .first) (stands .most))

@@ -83,7 +83,8 @@ module _ {t : List ℕ} {c : ℕ} (w : Whole t c) (key : ℕ) where
         (λ q. rw q (unfold dropped in both-refuse w LastChange)))
 
   walked : (o : Option Batch) → seek key T ≡ o
-      → AsLedger (dropped t (droppingAt t c (sought o l (visits key T)))) c (onEntry (mapEntry o) (kept L KeyAbsent) (entered L removed))
+      → AsLedger (dropped t (droppingAt t c (sought o l (visits key T)))) c
+      (onEntry (mapEntry o) (kept L KeyAbsent) (entered L removed))
   unfolding droppingAt
   walked none e = unfold dropped in both-refuse w KeyAbsent
   walked (some d) e =

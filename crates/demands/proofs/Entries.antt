@@ -102,10 +102,13 @@ module _ (key : ℕ) (f : Tree → Tree) (op : List Entry → List Entry)
       top d a b l r (eqb-true key (d .key) e) none-l
       ∙ sym (rw (entries-node d a b l r) (op-right (entriesOf l) (entryOf d ∷ entriesOf r) none-l)))
       (λ e g. let none-r = above-none key (d .key) r (h .1) (omega (arith, ltb-true key (d .key) g)) in
-      entries-node d _ b (atKey key f l) r ∙ ap (λ (x : List Entry). x ++ (entryOf d ∷ entriesOf r)) (keyed-entries l (h .2))
-      ∙ sym (rw (entries-node d a b l r) (op-left (entriesOf l) (entryOf d ∷ entriesOf r) (unfold lookup in rw (e, none-r) refl))))
+      entries-node d _ b (atKey key f l) r
+      ∙ ap (λ (x : List Entry). x ++ (entryOf d ∷ entriesOf r)) (keyed-entries l (h .2))
+      ∙ sym (rw (entries-node d a b l r)
+      (op-left (entriesOf l) (entryOf d ∷ entriesOf r) (unfold lookup in rw (e, none-r) refl))))
       (λ e g. let none-l = below-none key (d .key) l (h .0) (omega (arith, ltb-false key (d .key) g)) in
-      entries-node d a _ l (atKey key f r) ∙ ap (λ (x : List Entry). entriesOf l ++ (entryOf d ∷ x)) (keyed-entries r (h .3))
+      entries-node d a _ l (atKey key f r)
+      ∙ ap (λ (x : List Entry). entriesOf l ++ (entryOf d ∷ x)) (keyed-entries r (h .3))
       ∙ sym (rw (entries-node d a b l r) (op-right (entriesOf l) (entryOf d ∷ entriesOf r) none-l
       ∙ ap (λ (x : List Entry). entriesOf l ++ x) (past d r e))))
 

@@ -1,16 +1,13 @@
--- Demand 2: any list of calls on a sound table answers and leaves what it does on the ledger. Assumes what its statements say of tidy.
+-- Demand 2: any list of calls on a sound table is that list on the ledger. Assumes of tidy what its statements say.
 use Prim.Native.Nat.{ℕ}
 use mathlib.Core.Path.{_≡_, refl, _∙_, ap}
-use mathlib.Core.Option.{Option, some}
+use mathlib.Core.Option.{some}
 use mathlib.Core.List.{List, [], _∷_}
-use Rattle.scope.specs.Answers.{Done}
 use Rattle.scope.specs.Calls.{Call, Start, Check, Find, Post, Amend, Drop, Rank, Total, Worth, Fire, Tidy, answerOf, tableOf, answers, after}
 use Rattle.scope.specs.declared.answer.Answer.{Answer}
 use Rattle.words.specs.Ready.{Sized}
 use Rattle.sound.specs.Whole.{Whole}
-use Rattle.ledger.specs.Ledger.{Ledger}
 use Rattle.ledger.specs.Sequence.{ledgerAnswer, ledgerAfter, ledgerAnswers, ledgerAfterAll}
-use Rattle.demands.specs.Ledgers.{ledgerOf}
 use Rattle.demands.specs.Sequence.{apart, allApart, SameCall, SameCalls, TidyKeeps}
 use Rattle.demands.proofs.Open.{check-whole}
 use Rattle.demands.proofs.Answers.{find-ledger, rank-ledger, total-ledger}
@@ -19,30 +16,33 @@ use Rattle.demands.proofs.Amending.{amend-ledger}
 use Rattle.demands.proofs.Dropping.{drop-ledger}
 use Rattle.demands.proofs.Firing.{fire-ledger, start-ledger}
 
+abbrev told : {a b : Answer} → a ≡ b → some a ≡ some b
+told e = ap (λ (a : Answer). some a) e
+
 -- start asks for nothing but the length
 start-same : {t : List ℕ} {c : ℕ} → Sized t c → SameCall Start t c
 unfolding apart answerOf tableOf ledgerAnswer ledgerAfter
 start-same z =
     let s = start-ledger z in
-    record { answer = ap (λ (a : Answer). some a) (s .answer); whole = s .whole; ledger = s .ledger }
+    record { answer = told (s .answer); whole = s .whole; ledger = s .ledger }
 
 -- one call
 pub call-ledger : TidyKeeps → {t : List ℕ} {c : ℕ} → Whole t c → (x : Call) → SameCall x t c
 unfolding apart answerOf tableOf ledgerAnswer ledgerAfter
 call-ledger keeps w Start = start-same (w .sized)
-call-ledger keeps w Check = record { answer = ap (λ (a : Answer). some a) (check-whole w); whole = w; ledger = refl }
-call-ledger keeps w (Find key) = record { answer = ap (λ (a : Answer). some a) (find-ledger w key); whole = w; ledger = refl }
+call-ledger keeps w Check = record { answer = told (check-whole w); whole = w; ledger = refl }
+call-ledger keeps w (Find key) = record { answer = told (find-ledger w key); whole = w; ledger = refl }
 call-ledger keeps w (Post key pieces state) =
     let d = post-ledger w key pieces state in
-    record { answer = ap (λ (a : Answer). some a) (d .answer); whole = d .whole; ledger = d .ledger }
+    record { answer = told (d .answer); whole = d .whole; ledger = d .ledger }
 call-ledger keeps w (Amend key pieces state) =
     let d = amend-ledger w key pieces state in
-    record { answer = ap (λ (a : Answer). some a) (d .answer); whole = d .whole; ledger = d .ledger }
+    record { answer = told (d .answer); whole = d .whole; ledger = d .ledger }
 call-ledger keeps w (Drop key) =
     let d = drop-ledger w key in
-    record { answer = ap (λ (a : Answer). some a) (d .answer); whole = d .whole; ledger = d .ledger }
-call-ledger keeps w (Rank r) = record { answer = ap (λ (a : Answer). some a) (rank-ledger w r); whole = w; ledger = refl }
-call-ledger keeps w (Total K) = record { answer = ap (λ (a : Answer). some a) (total-ledger w K); whole = w; ledger = refl }
+    record { answer = told (d .answer); whole = d .whole; ledger = d .ledger }
+call-ledger keeps w (Rank r) = record { answer = told (rank-ledger w r); whole = w; ledger = refl }
+call-ledger keeps w (Total K) = record { answer = told (total-ledger w K); whole = w; ledger = refl }
 call-ledger keeps w Worth = record { answer = refl; whole = w; ledger = refl }
 call-ledger keeps w (Fire rule holder side) =
     let d = fire-ledger w rule holder side in

@@ -45,7 +45,8 @@ module _ (key : ℕ) (mid : List Entry) (op : List Entry → List Entry) (nil : 
   op-left [] ys e = rw nil (op-none ys e)
   op-left (x ∷ xs) ys e =
       rw (step x (xs ++ ys), step x xs)
-      (by-bool (eqb key (x .key)) (λ p. rw p (sym (append-assoc mid xs ys))) (λ p. rw p (ap (λ zs. x ∷ zs) (op-left xs ys e))))
+      (by-bool (eqb key (x .key))
+      (λ p. rw p (sym (append-assoc mid xs ys))) (λ p. rw p (ap (λ zs. x ∷ zs) (op-left xs ys e))))
 
   op-right : (xs ys : List Entry) → lookup key xs ≡ none → op (xs ++ ys) ≡ xs ++ op ys
   op-right [] ys e = refl
