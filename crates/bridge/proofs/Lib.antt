@@ -15,9 +15,15 @@ pub mod Aims
 pub mod Ways
 pub mod Fires
 pub mod Calls
+pub mod Held
+pub mod Linked
+pub mod Dues
+pub mod Meets
 -- the search walk, and rest
 pub mod Seeks
 pub mod Quiets
+pub mod Searches
+pub mod Rests
 -- records amended and posted
 pub mod Grown
 pub mod Free

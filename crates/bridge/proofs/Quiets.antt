@@ -176,7 +176,7 @@ module _ (test : ℕ → ℕ → Bool) where
         r .1,
       ))
 
-  no-slot : (left k : ℕ) → nothing (slotsFrom test left k) ≡ true
+  pub no-slot : (left k : ℕ) → nothing (slotsFrom test left k) ≡ true
       → (v n : ℕ) → k ≤ v → v < k + left → 1 ≤ n → n ≤ 8 → test v n ≡ false
   unfolding slotsFrom
   no-slot zero k e v n p q i j = absurd (omega arith)

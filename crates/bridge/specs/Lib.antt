@@ -8,3 +8,4 @@ pub mod Seek
 pub mod Without
 pub mod Planned
 pub mod Settled
+pub mod Due

@@ -17,5 +17,9 @@ pub mod Dropping
 pub mod Firing
 pub mod Sequence
 pub mod Stuck
+-- tidy is its firings
+pub mod Enabled
+pub mod Tidying
+pub mod Tidied
 -- the promises exclude what does nothing
 pub mod Teeth

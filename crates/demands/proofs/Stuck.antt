@@ -2,14 +2,13 @@
 use Prim.Native.Nat.{ℕ, _≤_}
 use mathlib.Core.Path.{_≡_, refl, _∙_, ap}
 use mathlib.Core.Option.{some}
-use mathlib.Core.List.{List, [], _∷_}
+use mathlib.Core.List.{List}
 use native.Mathlib.Omega.{arith}
 use native.Mathlib.Decide.{ℕ-discrete}
 use borrow.Author.Tests.{ne-eqb}
 use Rattle.scope.specs.Numbers.{rootLink, mostHeight, sideOf, linkOf}
 use Rattle.scope.specs.Table.{word, rootWord, linkAt}
 use Rattle.scope.specs.Tree.{Tree, trueHeight}
-use Rattle.scope.specs.Sound.{Spells}
 use Rattle.scope.specs.Fire.{aim, aimed, firePlan, fired, fireOf, fireAnswer}
 use Rattle.scope.specs.declared.rule.Rule.{Rule}
 use Rattle.scope.specs.declared.side.Side.{Side}
@@ -19,50 +18,20 @@ use Rattle.scope.specs.declared.side.LinkIs.the-variants.{Known}
 use Rattle.scope.specs.declared.outcome.Firing.{Firing}
 use Rattle.scope.specs.declared.outcome.Firing.the-variants.{Refuse, Fire}
 use Rattle.sound.specs.Whole.{Whole}
-use Rattle.sound.proofs.Frame.{none-at-0}
 use Rattle.tree.specs.Rewrite.{fireAt, within}
-use Rattle.tree.specs.Place.{subtree}
-use Rattle.tree.proofs.Steps.{on-top}
 use Rattle.tree.proofs.Place.{placed}
 use Rattle.tree.proofs.Height.{height-size}
 use Rattle.tree.proofs.Quiet.{never-stuck}
 use Rattle.bridge.specs.Alike.{Alike}
 use Rattle.bridge.specs.Leads.{linkAlong, Leads}
-use Rattle.bridge.proofs.Looks.{look}
-use Rattle.bridge.proofs.Outside.{link-son}
-use Rattle.bridge.proofs.Ways.{same-none, leads-holder}
 use Rattle.bridge.proofs.Along.{hangs-along}
 use Rattle.bridge.proofs.Fires.{hangs-root, same-way}
 use Rattle.bridge.proofs.Calls.{plan-is}
+use Rattle.bridge.proofs.Held.{root-only}
 use Rattle.bridge.proofs.Quiets.{relaxed, numbered}
+use Rattle.demands.specs.Tidying.{sideNumber}
 use Rattle.demands.proofs.Entries.{not-less}
 use Rattle.demands.proofs.Walks.{tree-small}
-
--- of the links in a tree only the root's is held by slot 0
-root-only : (t : List ℕ) (c : ℕ) (way : List Side) (T S : Tree) → Spells t c (word t (linkAt rootLink)) T
-    → subtree way T ≡ some S
-    → linkAlong t way rootLink .holder ≡ 0 → linkAlong t way rootLink ≡ rootLink
-unfolding subtree linkAlong
-root-only t c [] T S p e z = refl
-root-only t c (s ∷ way) T S p e z =
-    on-top s T S _ e
-    (λ X. Spells t c (word t (linkAt rootLink)) X → linkAlong t (s ∷ way) rootLink ≡ rootLink)
-    (λ d x near far q h.
-    let a = look t c (word t (linkAt rootLink)) d x near far s h in
-    let down : Link = record { holder = word t (linkAt rootLink); side = s } in
-    let near-spells = rw (← link-son t down (a .there)) at (a .nearSon) in
-    let k = leads-holder t c way down near S near-spells q in
-    absurd (omega (
-      arith,
-      rw z at k,
-      same-none 0 (word t (linkAt rootLink)) (λ i. omega (arith, a .there)),
-      none-at-0 t c (word t (linkAt down)) near near-spells,
-    )))
-    p
-
-abbrev sideNumber : Side → ℕ
-sideNumber Left = 0
-sideNumber Right = 1
 
 -- a link of a table has its numbers
 some-holder : (c k : ℕ) (s : Side) → k ≤ c → (k ≡ 0 → ⊥)
@@ -75,7 +44,7 @@ root-known : (c : ℕ) → linkOf c 0 0 ≡ Known rootLink
 unfolding linkOf sideOf
 root-known c = rw (not-less c 0 (omega arith)) refl
 
-link-known : (c : ℕ) (l : Link) → l .holder ≤ c → (l .holder ≡ 0 → l ≡ rootLink)
+pub link-known : (c : ℕ) (l : Link) → l .holder ≤ c → (l .holder ≡ 0 → l ≡ rootLink)
     → linkOf c (l .holder) (sideNumber (l .side)) ≡ Known l
 link-known c l h r =
     elim (ℕ-discrete (l .holder) 0) [

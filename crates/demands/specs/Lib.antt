@@ -1,5 +1,6 @@
 -- What the theorems of the demands speak of.
 pub mod Fires
+pub mod Tidying
 pub mod Short
 pub mod Listed
 pub mod Ledgers

@@ -1,0 +1,67 @@
+-- What tidy does, as a list of calls of fire. Assumes nothing: these are definitions.
+use Prim.Native.Nat.{ℕ, suc, _≤_}
+use mathlib.Core.Path.{_≡_}
+use mathlib.Core.Bool.{cond}
+use mathlib.Core.List.{List, [], _∷_, map}
+use lib.ListN.{length}
+use Rattle.scope.specs.Table.{word, changeWord}
+use Rattle.scope.specs.Answers.{Done, accepted}
+use Rattle.scope.specs.Fire.{fireOf}
+use Rattle.scope.specs.Tidy.{linkTo, nextOf, quiet, tidyAnswer, tidyTable}
+use Rattle.scope.specs.Calls.{answers, after}
+use Rattle.scope.specs.declared.side.Side.{Side}
+use Rattle.scope.specs.declared.side.Side.the-variants.{Left, Right}
+use Rattle.scope.specs.declared.outcome.Next.the-variants.{At, Nothing}
+use Rattle.sound.specs.Whole.{Whole}
+use Rattle.bridge.specs.Due.{Due}
+use Rattle.demands.specs.Fires.{Trial, fires}
+use Rattle.demands.specs.Ledgers.{ledgerOf}
+
+-- the number of a side
+abbrev pub sideNumber : Side → ℕ
+sideNumber Left = 0
+sideNumber Right = 1
+
+-- the numbers of rule n at slot v, which hangs at a link of the table
+abbrev pub trialAt : List ℕ → ℕ → ℕ → ℕ → Trial
+trialAt t c v n = record { rule = n; holder = linkTo t c v .holder; side = sideNumber (linkTo t c v .side) }
+
+abbrev pub tried : List ℕ → Trial → Done
+tried t x = fireOf t (x .rule) (x .holder) (x .side)
+
+-- a call of fire that names a rule which is due at a slot, and the link where that slot hangs
+pub record DueTrial (t : List ℕ) (c : ℕ) (x : Trial) : Type 0 where
+  pub slot : ℕ
+  pub due : Due t c slot (x .rule)
+  pub is : x ≡ trialAt t c slot (x .rule)
+
+-- the calls xs of fire lead from t to t′: each is of the rule that is next, each is accepted, and they end
+-- where the budget is spent or no rule is due
+pub data Firings (c : ℕ) : List ℕ → ℕ → List Trial → List ℕ → Type 0 where
+  rests : {t : List ℕ} {budget : ℕ} → nextOf t c ≡ Nothing → Firings c t budget [] t
+  spent : {t : List ℕ} → Firings c t 0 [] t
+  next : {t t′ : List ℕ} {budget : ℕ} {xs : List Trial} (v n : ℕ) → nextOf t c ≡ At v n
+      → tried t (trialAt t c v n) .answer ≡ accepted (word t changeWord) 0 0 0
+      → Firings c (tried t (trialAt t c v n) .words) budget xs t′ → Firings c t (suc budget) (trialAt t c v n ∷ xs) t′
+
+-- why they ended: the budget is spent, or no rule is due
+pub data Stopped (t : List ℕ) (c made budget : ℕ) : Type 0 where
+  all-spent : made ≡ budget → Stopped t c made budget
+  at-rest : nextOf t c ≡ Nothing → Stopped t c made budget
+
+-- what such calls come to: the table, that each was accepted, how many, why they ended, and the ledger
+pub record Ran (t : List ℕ) (c budget : ℕ) (xs : List Trial) (t′ : List ℕ) : Type 0 where
+  pub table : after (fires xs) t ≡ t′
+  pub replies : answers (fires xs) t ≡ map (λ x. accepted (word t changeWord) 0 0 0) xs
+  pub most : length xs ≤ budget
+  pub stopped : Stopped t′ c (length xs) budget
+  pub whole : Whole t′ c
+  pub ledger : ledgerOf t′ c ≡ ledgerOf t c
+
+-- a call of tidy: the calls of fire that it comes to, and its answer; the last number says whether no guard holds
+pub record Tidies (t : List ℕ) (c budget : ℕ) : Type 0 where
+  pub trials : List Trial
+  pub firings : Firings c t budget trials (tidyTable t budget)
+  pub run : Ran t c budget trials (tidyTable t budget)
+  pub answer : tidyAnswer t budget
+      ≡ accepted (word t changeWord) (length trials) (cond (quiet (tidyTable t budget) c) 1 0) 0
