@@ -22,4 +22,5 @@ pub mod Enabled
 pub mod Tidying
 pub mod Tidied
 -- the promises exclude what does nothing
+pub mod AnyCalls
 pub mod Teeth
