@@ -36,10 +36,11 @@ pub record Below (t t′ : List ℕ) (c : ℕ) (l : Link) (S S′ : Tree) : Type
   pub root : word t′ rootWord ≡ cond (eqb (l .holder) 0) top (word t rootWord)
   pub head : (i : ℕ) → 1 ≤ i → i < 4 → word t′ i ≡ word t i
 
--- the same for a link that may also become 0: the register beside it does so too
+-- slot k with 0 in its link and in the register beside it, if it holds the link
 abbrev pub emptied : Link → ℕ → Slot → Slot
 emptied l k y = cond (eqb k (l .holder)) (withPart (registerOn (l .side)) 0 (withPart (sonOn (l .side)) 0 y)) y
 
+-- the same for a link that may also become empty: then the register beside it is 0 too
 pub record Cut (t t′ : List ℕ) (c : ℕ) (l : Link) (S S′ : Tree) : Type 0 where
   pub sized : Sized t′ c
   pub top : ℕ
