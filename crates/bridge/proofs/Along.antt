@@ -1,108 +1,35 @@
 -- At the end of any way: a firing on words is that on the tree, accepted on the one exactly if on the other. Assumes nothing.
-use Prim.Native.Nat.{ℕ, _+_, _≤_}
-use mathlib.Core.Path.{_≡_, refl, sym, _∙_, ap}
+use Prim.Native.Nat.{ℕ}
+use mathlib.Core.Path.{_≡_, refl}
 use mathlib.Core.Bool.{true, false, _||_}
 use mathlib.Core.Option.{Option, none, some}
 use mathlib.Core.List.{List, [], _∷_}
-use native.Mathlib.Omega.{arith}
-use lib.Dec.{eqb, leb}
-use borrow.Author.Tests.{eq-eqb, ne-eqb, leb-true, eqb-true}
-use Rattle.scope.proofs.Bools.{and-l, and-r, by-bool, neither}
-use Rattle.scope.specs.Numbers.{other, mostHeight}
-use Rattle.scope.specs.Table.{word, slotAt, son, linkAt}
-use Rattle.scope.specs.Fit.{stateOk, linkOk, fitSlot}
-use Rattle.scope.specs.Tree.{Batch, Tree, times, same}
-use Rattle.scope.specs.Rules.{seen}
+use lib.Dec.{eqb}
+use borrow.Author.Tests.{eqb-true}
+use Rattle.scope.proofs.Bools.{by-bool, neither}
+use Rattle.scope.specs.Table.{word, slotAt, linkAt}
+use Rattle.scope.specs.Fit.{stateOk, fitSlot}
+use Rattle.scope.specs.Tree.{Batch, Tree, leaf, node}
+use Rattle.scope.specs.Rules.{pair}
 use Rattle.scope.specs.Fire.{aim, aimV}
 use Rattle.scope.specs.declared.rule.Pair.{Pair}
 use Rattle.scope.specs.declared.rule.Rule.{Rule}
 use Rattle.scope.specs.declared.side.Side.{Side}
+use Rattle.scope.specs.declared.side.Side.the-variants.{Left, Right}
 use Rattle.scope.specs.declared.side.Link.{Link}
 use Rattle.scope.specs.declared.outcome.Firing.{Firing}
 use Rattle.scope.specs.declared.outcome.Firing.the-variants.{Refuse, Fire}
-use Rattle.words.proofs.Laws.{fit-son, fits}
-use Rattle.sound.proofs.Frame.{frame}
+use Rattle.words.proofs.Laws.{fits}
 use Rattle.tree.specs.Rewrite.{mk, hung, acceptAt, rewriteAt}
-use Rattle.tree.specs.Place.{subtree, plug}
-use Rattle.tree.proofs.Steps.{no-tree, on-top, top-is}
-use Rattle.tree.proofs.Sides.{times-mk}
-use Rattle.bridge.specs.Edit.{sonOn, withPart, shape}
-use Rattle.bridge.specs.Below.{Hangs, Below}
+use Rattle.tree.specs.Place.{subtree}
+use Rattle.tree.proofs.Steps.{on-top, top-is}
+use Rattle.bridge.specs.Below.{Hangs, Below, Cut}
 use Rattle.bridge.specs.Alike.{Alike}
 use Rattle.bridge.specs.Leads.{linkAlong}
-use Rattle.bridge.proofs.Looks.{shape-self, near-son, fit-from, Looks, look, spell}
-use Rattle.bridge.proofs.Outside.{same-one, first-slot, link-son, steady, steady-root}
-use Rattle.bridge.proofs.Turns.{link-on}
+use Rattle.bridge.specs.Seek.{route, endOf, atKey}
+use Rattle.bridge.proofs.Keyed.{by-key}
 use Rattle.bridge.proofs.Aims.{same-at}
-
-low-register : (c x h : ℕ) → linkOk c x h ≡ true → h ≤ mostHeight
-unfolding linkOk
-low-register c x h e = leb-true _ _ (and-r (leb x c) _ (and-l _ _ e))
-
--- a node over its near son, at link l
-module _ {t : List ℕ} {c : ℕ} (l : Link) (s : Side) (d : Batch) (p : Pair) (near far : Tree) (h : Hangs t c l (mk s d p near far)) where
-  abbrev x : ℕ
-  x = word t (linkAt l)
-
-  -- the link to the son
-  abbrev down : Link
-  down = record { holder = x; side = s }
-
-  top : Looks t c x s d p near far
-  top = look t c x d p near far s (h .spells)
-
-  total : (k : ℕ) → times k (mk s d p near far) ≡ same k x + (times k near + times k far)
-  total k = times-mk s d p near far k ∙ rw (ap (λ (b : Batch). b .slot) (top .holds))
-
-  down-is : word t (linkAt down) ≡ son (slotAt t x) s
-  down-is = link-son t down (top .there)
-
-  pub hangs-down : Hangs t c down near
-  hangs-down =
-      record {
-        sized = h .sized;
-        holder = h .most;
-        most = rw down-is (fit-son c (slotAt t x) s (top .fit));
-        spells = rw down-is (top .nearSon);
-        once = λ k. omega (arith, total k, h .once k);
-        apart = omega (arith, total x, h .once x, same-one x x refl);
-      }
-
-  pub holder-fit : fitSlot c (slotAt t x) ≡ true
-  holder-fit = top .fit
-
-  module _ {t′ : List ℕ} {near′ : Tree} (b : Below t t′ c down near near′) where
-    -- slots outside the near son and other than x stay
-    stay : (k : ℕ) → 1 ≤ k → times k near ≡ 0 → (k ≡ x → ⊥) → slotAt t′ k ≡ slotAt t k
-    stay k i z ne = b .slots k i z ∙ rw (ne-eqb k x ne)
-
-    slot-x : slotAt t′ x ≡ shape s (slotAt t x) (b .top) (son (slotAt t x) (other s)) (seen s (slotAt t x))
-    slot-x =
-        b .slots x (top .there) (omega (arith, total x, h .once x, same-one x x refl))
-        ∙ rw (eq-eqb x x refl)
-        (ap (withPart (sonOn s) (b .top)) (sym (shape-self s (slotAt t x))) ∙ near-son s (slotAt t x) _ _ _ (b .top))
-
-    -- a change below the son's link is one below the node's
-    pub above : Below t t′ c l (mk s d p near far) (mk s d p near′ far)
-    above =
-        let f = fit-from c (slotAt t x) (top .fit) s in
-        record {
-          sized = b .sized;
-          top = x;
-          first = top .there;
-          most = h .most;
-          spells = rw (top .registers)
-              (spell t′ c x d _ near′ far s (slotAt t x) (b .top) _ (top .there) slot-x
-              (f .other-links (b .top) _ _ (link-on c (b .top) _ (b .first) (b .most) (low-register c _ _ (f .near))) (f .far))
-              (top .holds) (b .spells)
-              (frame t t′ c _ far
-              (λ k i. stay k (first-slot t c _ far (top .farSon) k i) (omega (arith, total k, h .once k))
-              (λ q. omega (arith, total k, h .once k, same-one k x q)))
-              (top .farSon)));
-          slots = λ k i z. stay k i (omega (arith, total k)) (λ q. omega (arith, total k, same-one k x q)) ∙ steady t l k i;
-          root = b .root ∙ rw (ne-eqb x 0 (λ q. omega (arith, top .there))) (steady-root t l);
-          head = b .head;
-        }
+use Rattle.bridge.proofs.Above.{hangs-down, holder-fit, below-cut, above-cut, above}
 
 -- the holder of a link is a fit slot, or it is the root's link
 abbrev pub Held : List ℕ → ℕ → Link → Type 0
@@ -143,7 +70,7 @@ same-along {t} {c} r (s ∷ way) l T S h g e =
     let held : Held t c (record { holder = word t (linkAt l); side = s })
     = by-bool (eqb (word t (linkAt l)) 0) (λ z. simp z) (λ z. simp z (holder-fit l s d p near far k)) in
     simp top-is
-    (hung-alike t _ _ s d p far (acceptAt way r near) _ (λ near′ t′ b. above l s d p near far k b)
+    (hung-alike t _ _ s d p far (acceptAt way r near) _ (λ near′ t′ b. above l s d p near far k near′ b)
     (same-along r way (record { holder = word t (linkAt l); side = s }) near S (hangs-down l s d p near far k) held q)))
     h
 
@@ -157,25 +84,18 @@ hangs-along {t} {c} (s ∷ way) l T S h e =
     (λ d p near far q k. hangs-along way (record { holder = word t (linkAt l); side = s }) near S (hangs-down l s d p near far k) q)
     h
 
--- a change below the link at the end of a way is one below the link where it begins
-on-hung : (s : Side) (d : Batch) (p : Pair) (far T′ : Tree) (o : Option Tree) → hung s d p o far ≡ some T′
-    → (P : Tree → Type 0) → ((near : Tree) → o ≡ some near → P (mk s d p near far)) → P T′
-on-hung s d p far T′ none e P k = no-tree e
-on-hung s d p far T′ (some near) e P k = let q : mk s d p near far ≡ T′ = cc in rw (← q) (k near refl)
-
-pub below-along : {t t′ : List ℕ} {c : ℕ} (way : List Side) (l : Link) (T S S′ T′ : Tree) → Hangs t c l T
-    → subtree way T ≡ some S
-    → plug way S′ T ≡ some T′ → Below t t′ c (linkAlong t way l) S S′ → Below t t′ c l T T′
-unfolding subtree plug linkAlong
-below-along [] l T S S′ T′ h e f b =
-    let q : T ≡ S = cc in
-    let r : T′ ≡ S′ = cc in
-    rw (q, r) b
-below-along {t} {t′} {c} (s ∷ way) l T S S′ T′ h e f b =
-    on-top s T S _ e
-    (λ X. Hangs t c l X → plug (s ∷ way) S′ X ≡ some T′ → Below t t′ c l X T′)
-    (λ d p near far q k g.
-    on-hung s d p far T′ (plug way S′ near) (simp top-is at g) (Below t t′ c l (mk s d p near far))
-    (λ near′ i. above l s d p near far k
-    (below-along way (record { holder = word t (linkAt l); side = s }) near S S′ near′ (hangs-down l s d p near far k) q i b)))
-    h f
+-- a change below the link at the end of the way to a key is one below the link where it begins
+pub cut-key : {t t′ : List ℕ} {c : ℕ} (key : ℕ) (f : Tree → Tree) (T : Tree) (l : Link) → Hangs t c l T
+    → Cut t t′ c (linkAlong t (route key T) l) (endOf key T) (f (endOf key T)) → Cut t t′ c l T (atKey key f T)
+unfolding route endOf atKey linkAlong
+cut-key key f leaf l h b = b
+cut-key {t} {t′} {c} key f (node d a b left right) l h cut =
+    let on : Side → Link = λ s. record { holder = word t (linkAt l); side = s } in
+    by-key key f d a b left right
+    (λ w E U. Cut t t′ c (linkAlong t w l) E (f E) → Cut t t′ c l (node d a b left right) U)
+    (λ e k. k)
+    (λ e g k. below-cut (above-cut l Left d (pair a b) left right h (atKey key f left)
+    (cut-key key f left (on Left) (hangs-down l Left d (pair a b) left right h) k)))
+    (λ e g k. below-cut (above-cut l Right d (pair b a) right left h (atKey key f right)
+    (cut-key key f right (on Right) (hangs-down l Right d (pair b a) right left h) k)))
+    cut

@@ -1,6 +1,6 @@
 -- A tree with a new record hung where its key belongs. Assumes nothing.
 use Prim.Native.Nat.{ℕ, suc, _+_, _<_}
-use mathlib.Core.Path.{_≡_, refl}
+use mathlib.Core.Path.{_≡_, refl, ap}
 use mathlib.Core.Bool.{true, false}
 use mathlib.Core.Option.{none}
 use native.Mathlib.Omega.{arith}
@@ -9,6 +9,7 @@ use borrow.Author.Tests.{eqb-false, ltb-true, ltb-false}
 use Rattle.scope.proofs.Bools.{by-bool}
 use Rattle.scope.specs.Tree.{Batch, Tree, leaf, node, size, times, same, Below, Above, Ordered}
 use Rattle.bridge.specs.Seek.{seek, endOf, atKey}
+use Rattle.bridge.proofs.Keyed.{at-times, at-size}
 
 -- a key that is not found is not the top's, and not found on the side where it would be
 pub missing : {X : Type 0} (key : ℕ) (d : Batch) (a b : ℕ) (l r : Tree) → seek key (node d a b l r) ≡ none
@@ -33,22 +34,14 @@ module _ (new : Batch) where
   grown = atKey (new .key) (λ E. node new 0 0 leaf leaf)
 
   pub grown-times : (k : ℕ) (T : Tree) → seek (new .key) T ≡ none → times k (grown T) ≡ same k (new .slot) + times k T
-  unfolding atKey times
-  grown-times k leaf e = omega arith
-  grown-times k (node d a b l r) e =
-      missing (new .key) d a b l r e
-      (λ p left right. by-bool (ltb (new .key) (d .key))
-      (λ f. simp (p, f) (omega (arith, grown-times k l (left f))))
-      (λ f. simp (p, f) (omega (arith, grown-times k r (right f)))))
+  unfolding times
+  grown-times k T e =
+      omega (arith, at-times (new .key) (λ E. node new 0 0 leaf leaf) k T, ap (times k) (end-missing (new .key) T e))
 
   pub grown-size : (T : Tree) → seek (new .key) T ≡ none → size (grown T) ≡ suc (size T)
-  unfolding atKey size
-  grown-size leaf e = omega arith
-  grown-size (node d a b l r) e =
-      missing (new .key) d a b l r e
-      (λ p left right. by-bool (ltb (new .key) (d .key))
-      (λ f. simp (p, f) (omega (arith, grown-size l (left f))))
-      (λ f. simp (p, f) (omega (arith, grown-size r (right f)))))
+  unfolding size
+  grown-size T e =
+      omega (arith, at-size (new .key) (λ E. node new 0 0 leaf leaf) T, ap size (end-missing (new .key) T e))
 
   grown-below : (m : ℕ) (T : Tree) → seek (new .key) T ≡ none → new .key < m → Below m T → Below m (grown T)
   unfolding atKey Below

@@ -4,11 +4,14 @@ pub mod Edited
 pub mod Wrote
 pub mod Looks
 pub mod Outside
+-- changes below a link and at a key
+pub mod Keyed
+pub mod Above
+pub mod Along
 -- firings at a link, along a way, and on a sound table
 pub mod Turns
 pub mod Twice
 pub mod Aims
-pub mod Along
 pub mod Ways
 pub mod Fires
 pub mod Calls
@@ -22,9 +25,15 @@ pub mod Quiets
 pub mod Searches
 pub mod Rests
 -- records amended and posted
-pub mod Keyed
 pub mod Grown
 pub mod Free
 pub mod Amends
 pub mod Settles
 pub mod Posts
+-- records dropped
+pub mod Lowest
+pub mod Relinks
+pub mod Follows
+pub mod Swaps
+pub mod Drops
+pub mod Dropped

@@ -6,13 +6,12 @@ use mathlib.Core.Option.{none, some}
 use mathlib.Core.List.{List, [], _∷_}
 use native.Mathlib.Omega.{arith}
 use native.Mathlib.Decide.{ℕ-discrete}
-use lib.ListN.{set, length-set}
-use lib.Seq.{getD-set-other, getD-set-same}
+use lib.ListN.{set}
 use lib.Dec.{eqb}
 use borrow.Author.Tests.{ne-eqb, le-leb}
 use Rattle.scope.proofs.Bools.{and-l, and-r}
 use Rattle.scope.specs.Numbers.{rootLink}
-use Rattle.scope.specs.Table.{word, rootWord, countWord, changeWord, zeroWord, slotAt, withSlot, linkAt, written}
+use Rattle.scope.specs.Table.{word, rootWord, countWord, changeWord, slotAt, withSlot, linkAt, written}
 use Rattle.scope.specs.Fit.{stateOk, piecesOk, linkOk, fitSlot, headerOk}
 use Rattle.scope.specs.Tree.{Batch, Tree, leaf, node, size, times, same}
 use Rattle.scope.specs.Sound.{Spells}
@@ -29,20 +28,21 @@ use Rattle.tree.specs.Place.{subtree}
 use Rattle.tree.proofs.Steps.{on-top}
 use Rattle.tree.proofs.Sides.{times-mk}
 use Rattle.bridge.specs.Edit.{sonOn, Edit, edit, writes, edited, rooted}
-use Rattle.bridge.specs.Below.{Hangs, Below}
+use Rattle.bridge.specs.Below.{Hangs, Below, Cut}
 use Rattle.bridge.specs.Leads.{linkAlong}
 use Rattle.bridge.specs.Seek.{seek, route, endOf}
 use Rattle.bridge.specs.Settled.{Settled, Spelled}
 use Rattle.bridge.proofs.Edited.{Rewritten, rewritten}
 use Rattle.bridge.proofs.Looks.{look}
 use Rattle.bridge.proofs.Outside.{same-one, first-slot, link-son}
-use Rattle.bridge.proofs.Wrote.{slot-here, slot-there, slot-head, slot-sized, head-slots}
-use Rattle.bridge.proofs.Along.{hangs-along, below-along}
+use Rattle.bridge.proofs.Wrote.{slot-here, slot-there, slot-head, slot-sized}
+use Rattle.bridge.proofs.Above.{below-cut}
+use Rattle.bridge.proofs.Along.{hangs-along, cut-key}
 use Rattle.bridge.proofs.Ways.{same-none, leads-holder}
-use Rattle.bridge.proofs.Keyed.{end-there, end-plugged}
+use Rattle.bridge.proofs.Keyed.{end-there}
 use Rattle.bridge.proofs.Grown.{end-missing, grown, grown-times, grown-size, grown-ordered}
 use Rattle.bridge.proofs.Fires.{new-header}
-use Rattle.bridge.proofs.Settles.{settles}
+use Rattle.bridge.proofs.Settles.{settles, root-slots, recounted-settled, recounted-change}
 
 -- a new leaf is fit
 fit-leaf : (c key pieces state : ℕ) → recordOk key pieces state ≡ true → fitSlot c (leafSlot key pieces state) ≡ true
@@ -170,10 +170,10 @@ module _ {t : List ℕ} {c : ℕ} (w : Whole t c) (key pieces state : ℕ) (ok :
         head = wrote .head;
       }
 
-  below-root : Below t₀ t₁ c rootLink T (grown new T)
-  below-root =
-      below-along way rootLink T (endOf key T) (node new 0 0 leaf leaf) (grown new T) still-hangs (end-there key T)
-      (end-plugged key (λ E. node new 0 0 leaf leaf) T) (rw (same-link, end-missing key T missing) leaf-below)
+  cut-root : Cut t₀ t₁ c rootLink T (grown new T)
+  cut-root =
+      cut-key key (λ E. node new 0 0 leaf leaf) T rootLink still-hangs
+      (below-cut (rw (same-link, end-missing key T missing) leaf-below))
 
   header₀ : headerOk c t₀ ≡ true
   header₀ =
@@ -186,7 +186,7 @@ module _ {t : List ℕ} {c : ℕ} (w : Whole t c) (key pieces state : ℕ) (ok :
 
   stays : (j : ℕ) → 1 ≤ j → (j ≡ k → ⊥) → times j T ≡ 0 → slotAt t₁ j ≡ slotAt t j
   stays j i ne z =
-      below-root .slots j i z ∙ rw (ne-eqb j 0 (λ q. omega arith)) (slot-there (w .sized) k (leafSlot key pieces state) first most j i ne)
+      root-slots cut-root j i z ∙ slot-there (w .sized) k (leafSlot key pieces state) first most j i ne
 
   once′ : (j : ℕ) → 1 ≤ j → j ≤ c → times j (grown new T) ≤ 1
   once′ j a b =
@@ -198,34 +198,21 @@ module _ {t : List ℕ} {c : ℕ} (w : Whole t c) (key pieces state : ℕ) (ok :
   settled : Settled t₁ t₂ c (grown new T)
   unfolding hung
   settled =
-      let n = word t countWord + 1 in
-      let m = word t changeWord + 1 in
-      let u = set t₁ countWord n in
-      record {
-        sized = record { room = simp length-set (still-hangs .sized .room); some = w .sized .some; most = w .sized .most };
-        slots = λ j i. head-slots u changeWord m j (omega arith) i ∙ head-slots t₁ countWord n j (omega arith) i;
-        root = getD-set-other u changeWord rootWord m 0 (λ q. omega arith) ∙ getD-set-other t₁ countWord rootWord n 0 (λ q. omega arith);
-        zero = getD-set-other u changeWord zeroWord m 0 (λ q. omega arith) ∙ getD-set-other t₁ countWord zeroWord n 0 (λ q. omega arith);
-        count = counts ∙ sym (getD-set-other u changeWord countWord m 0 (λ q. omega arith) ∙ getD-set-same t₁ countWord n 0 (omega (arith, wrote .sized .room)));
-        room = omega (arith, grown-size new T missing);
-        once = once′;
-        order = grown-ordered new T missing (w .sound .order);
-        rest = λ j i b z. let ne : j ≡ k → ⊥ = λ q. omega (arith, grown-times new j T missing, same-one j k q) in
-            let none-there : times j T ≡ 0 = omega (arith, grown-times new j T missing) in
-            rw (stays j i ne none-there) (w .sound .rest j i b none-there);
-      }
-    where
-      counts : size (grown new T) ≡ word t countWord + 1
-      counts = omega (arith, grown-size new T missing, w .sound .count)
+      recounted-settled (wrote .sized) (word t countWord + 1) (word t changeWord + 1)
+      (omega (arith, grown-size new T missing, w .sound .count))
+      (omega (arith, grown-size new T missing))
+      once′
+      (grown-ordered new T missing (w .sound .order))
+      (λ j i b z. let ne : j ≡ k → ⊥ = λ q. omega (arith, grown-times new j T missing, same-one j k q) in
+      let none-there : times j T ≡ 0 = omega (arith, grown-times new j T missing) in
+      rw (stays j i ne none-there) (w .sound .rest j i b none-there))
 
   pub posted-whole : Spelled t₂ c (grown new T)
-  posted-whole = settles header₀ below-root settled
+  posted-whole = settles header₀ cut-root settled
 
   pub posted-sized : Sized t₂ c
   posted-sized = settled .sized
 
   pub posted-change : word t₂ changeWord ≡ word t changeWord + 1
   unfolding hung
-  posted-change =
-      getD-set-same (set t₁ countWord (word t countWord + 1)) changeWord (word t changeWord + 1) 0
-      (simp length-set (omega (arith, still-hangs .sized .room)))
+  posted-change = recounted-change (wrote .sized) (word t countWord + 1) (word t changeWord + 1)

@@ -6,32 +6,36 @@ use mathlib.Core.Bool.{true}
 use mathlib.Core.List.{List}
 use native.Mathlib.Omega.{arith}
 use lib.ListN.{set, length-set}
-use lib.Seq.{getD-set-other}
+use lib.Seq.{getD-set-same, getD-set-other}
+use lib.Dec.{eqb}
 use borrow.Author.Tests.{ne-eqb}
+use Rattle.scope.proofs.Bools.{by-bool}
 use Rattle.scope.specs.Numbers.{rootLink}
 use Rattle.scope.specs.Table.{word, rootWord, countWord, changeWord, zeroWord, slotAt, withSlot, linkAt}
-use Rattle.scope.specs.Fit.{headerOk}
-use Rattle.scope.specs.Tree.{Batch, Tree, node}
+use Rattle.scope.specs.Fit.{headerOk, blankSlot}
+use Rattle.scope.specs.Tree.{Batch, Tree, node, size, times, Ordered}
 use Rattle.scope.specs.Sound.{Spells, Sound}
 use Rattle.scope.specs.Post.{recordOk}
 use Rattle.scope.specs.Amend.{withPieces}
 use Rattle.scope.specs.declared.side.Link.{Link}
+use Rattle.words.specs.Ready.{Sized}
 use Rattle.words.proofs.Laws.{header-count}
 use Rattle.sound.specs.Whole.{Whole}
 use Rattle.sound.proofs.Frame.{frame}
 use Rattle.sound.proofs.Spell.{tree-in}
-use Rattle.bridge.specs.Below.{Hangs, relinked, Below}
+use Rattle.bridge.specs.Below.{Hangs, Below, Cut}
 use Rattle.bridge.specs.Leads.{linkAlong}
 use Rattle.bridge.specs.Seek.{seek, route, endOf, amendTop}
 use Rattle.bridge.specs.Settled.{Settled, Spelled}
 use Rattle.bridge.proofs.Outside.{first-slot}
 use Rattle.bridge.proofs.Wrote.{head-slots}
-use Rattle.bridge.proofs.Along.{hangs-along, below-along}
-use Rattle.bridge.proofs.Keyed.{end-there, end-plugged, end-found, amendedTree, amended-times, amended-size, amended-ordered}
+use Rattle.bridge.proofs.Above.{below-cut}
+use Rattle.bridge.proofs.Along.{hangs-along, cut-key}
+use Rattle.bridge.proofs.Keyed.{end-there, end-found, amendedTree, amended-times, amended-size, amended-ordered}
 use Rattle.bridge.proofs.Amends.{amend-below}
 use Rattle.bridge.proofs.Fires.{hangs-root, new-header}
 
-pub settles : {t t₁ t₂ : List ℕ} {c : ℕ} {T T′ : Tree} → headerOk c t ≡ true → Below t t₁ c rootLink T T′
+pub settles : {t t₁ t₂ : List ℕ} {c : ℕ} {T T′ : Tree} → headerOk c t ≡ true → Cut t t₁ c rootLink T T′
     → Settled t₁ t₂ c T′ → Spelled t₂ c T′
 settles {t} {t₁} {t₂} {c} {T} {T′} e b s =
     let top : word t₂ rootWord ≡ b .top = s .root ∙ b .root in
@@ -45,6 +49,47 @@ settles {t} {t₁} {t₂} {c} {T} {T′} e b s =
       rest = λ k i j z. rw (s .slots k i) (s .rest k i j z);
     } in
     record { sound = s₂; tree = tree-in t₂ c s₂ }
+
+-- below the root's link no other slot holds it
+pub root-slots : {t t₁ : List ℕ} {c : ℕ} {T T′ : Tree} → Cut t t₁ c rootLink T T′ → (k : ℕ) → 1 ≤ k → times k T ≡ 0
+    → slotAt t₁ k ≡ slotAt t k
+root-slots b k i z =
+    b .slots k i z
+    ∙ by-bool (eqb (b .top) 0)
+    (λ e. rw (e, ne-eqb k 0 (λ q. omega arith)) refl) (λ e. rw (e, ne-eqb k 0 (λ q. omega arith)) refl)
+
+-- with another count and change number
+module _ {t₁ : List ℕ} {c : ℕ} (z : Sized t₁ c) (n m : ℕ) where
+  abbrev pub recounted : List ℕ
+  recounted = set (set t₁ countWord n) changeWord m
+
+  pub recounted-sized : Sized recounted c
+  recounted-sized = record { room = simp length-set (z .room); some = z .some; most = z .most }
+
+  others : (i : ℕ) → (i ≡ countWord → ⊥) → (i ≡ changeWord → ⊥) → word recounted i ≡ word t₁ i
+  others i p q = getD-set-other (set t₁ countWord n) changeWord i m 0 q ∙ getD-set-other t₁ countWord i n 0 p
+
+  pub recounted-change : word recounted changeWord ≡ m
+  recounted-change = getD-set-same (set t₁ countWord n) changeWord m 0 (simp length-set (omega (arith, z .room)))
+
+  pub recounted-settled : {T : Tree} → size T ≡ n → size T ≤ c → ((k : ℕ) → 1 ≤ k → k ≤ c → times k T ≤ 1) → Ordered T
+      → ((k : ℕ) → 1 ≤ k → k ≤ c → times k T ≡ 0 → blankSlot (slotAt t₁ k) ≡ true)
+      → Settled t₁ recounted c T
+  recounted-settled count room once order rest =
+      let u = set t₁ countWord n in
+      record {
+        sized = recounted-sized;
+        slots = λ j i. head-slots u changeWord m j (omega arith) i ∙ head-slots t₁ countWord n j (omega arith) i;
+        root = others rootWord (λ q. omega arith) (λ q. omega arith);
+        zero = others zeroWord (λ q. omega arith) (λ q. omega arith);
+        count = count
+            ∙ sym (getD-set-other u changeWord countWord m 0 (λ q. omega arith)
+            ∙ getD-set-same t₁ countWord n 0 (omega (arith, z .room)));
+        room = room;
+        once = once;
+        order = order;
+        rest = rest;
+      }
 
 -- the record of a key is amended
 module _ {t : List ℕ} {c : ℕ} (w : Whole t c) (key pieces state : ℕ) (ok : recordOk key pieces state ≡ true) (d : Batch)
@@ -69,29 +114,25 @@ module _ {t : List ℕ} {c : ℕ} (w : Whole t c) (key pieces state : ℕ) (ok :
       subst (λ (k : ℕ). Below t (withSlot t k (withPieces (slotAt t k) pieces state)) c l (node d a b left right)
       (amendTop pieces state (node d a b left right))) at (amend-below l d a b left right h key pieces state ok)
 
-  below-root : Below t t₁ c rootLink T (amendedTree key pieces state T)
-  below-root =
-      below-along (route key T) rootLink T (endOf key T) (amendTop pieces state (endOf key T)) (amendedTree key pieces state T)
-      (hangs-root w) (end-there key T) (end-plugged key (amendTop pieces state) T)
-      (end-found key T d found (λ E. Hangs t c l E → Below t t₁ c l E (amendTop pieces state E)) here at-end)
-
-  outer : (k : ℕ) → 1 ≤ k → relinked rootLink (below-root .top) k (slotAt t k) ≡ slotAt t k
-  outer k i = rw (ne-eqb k 0 (λ q. omega arith)) refl
+  cut-root : Cut t t₁ c rootLink T (amendedTree key pieces state T)
+  cut-root =
+      cut-key key (amendTop pieces state) T rootLink (hangs-root w)
+      (below-cut
+      (end-found key T d found (λ E. Hangs t c l E → Below t t₁ c l E (amendTop pieces state E)) here at-end))
 
   pub amended-whole : Spelled (set t₁ changeWord n) c (amendedTree key pieces state T)
   amended-whole =
-      settles (w .sound .header) below-root
+      settles (w .sound .header) cut-root
       (record {
-        sized = record { room = simp length-set (below-root .sized .room); some = w .sized .some; most = w .sized .most };
+        sized = record { room = simp length-set (cut-root .sized .room); some = w .sized .some; most = w .sized .most };
         slots = λ k i. head-slots t₁ changeWord n k (omega arith) i;
         root = getD-set-other t₁ changeWord rootWord n 0 (λ q. omega arith);
         zero = getD-set-other t₁ changeWord zeroWord n 0 (λ q. omega arith);
-        count = amended-size key pieces state T ∙ w .sound .count ∙ sym (below-root .head 1 (omega arith) (omega arith))
+        count = amended-size key pieces state T ∙ w .sound .count ∙ sym (cut-root .head 1 (omega arith) (omega arith))
             ∙ sym (getD-set-other t₁ changeWord countWord n 0 (λ q. omega arith));
         room = omega (arith, amended-size key pieces state T, w .sound .count, header-count c t (w .sound .header));
         once = λ k i j. rw (amended-times key pieces state k T) (w .sound .once k i j);
         order = amended-ordered key pieces state T (w .sound .order);
         rest = λ k i j z. let none-there = sym (amended-times key pieces state k T) ∙ z in
-            let stays : slotAt t₁ k ≡ slotAt t k = below-root .slots k i none-there ∙ outer k i in
-            rw stays (w .sound .rest k i j none-there);
+            rw (root-slots cut-root k i none-there) (w .sound .rest k i j none-there);
       })

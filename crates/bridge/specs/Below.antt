@@ -10,7 +10,7 @@ use Rattle.scope.specs.Sound.{Spells}
 use Rattle.scope.specs.declared.side.Link.{Link}
 use Rattle.scope.specs.declared.slot.Slot.{Slot}
 use Rattle.words.specs.Ready.{Sized}
-use Rattle.bridge.specs.Edit.{sonOn, withPart}
+use Rattle.bridge.specs.Edit.{sonOn, registerOn, withPart}
 
 -- the tree S hangs at link l: each of its slots stands in it once, and the holder not at all
 pub record Hangs (t : List ℕ) (c : ℕ) (l : Link) (S : Tree) : Type 0 where
@@ -33,5 +33,20 @@ pub record Below (t t′ : List ℕ) (c : ℕ) (l : Link) (S S′ : Tree) : Type
   pub most : top ≤ c
   pub spells : Spells t′ c top S′
   pub slots : (k : ℕ) → 1 ≤ k → times k S ≡ 0 → slotAt t′ k ≡ relinked l top k (slotAt t k)
+  pub root : word t′ rootWord ≡ cond (eqb (l .holder) 0) top (word t rootWord)
+  pub head : (i : ℕ) → 1 ≤ i → i < 4 → word t′ i ≡ word t i
+
+-- slot k with 0 in its link and in the register beside it, if it holds the link
+abbrev pub emptied : Link → ℕ → Slot → Slot
+emptied l k y = cond (eqb k (l .holder)) (withPart (registerOn (l .side)) 0 (withPart (sonOn (l .side)) 0 y)) y
+
+-- the same for a link that may also become empty: then the register beside it is 0 too
+pub record Cut (t t′ : List ℕ) (c : ℕ) (l : Link) (S S′ : Tree) : Type 0 where
+  pub sized : Sized t′ c
+  pub top : ℕ
+  pub most : top ≤ c
+  pub spells : Spells t′ c top S′
+  pub slots : (k : ℕ) → 1 ≤ k → times k S ≡ 0
+      → slotAt t′ k ≡ cond (eqb top 0) (emptied l k (slotAt t k)) (relinked l top k (slotAt t k))
   pub root : word t′ rootWord ≡ cond (eqb (l .holder) 0) top (word t rootWord)
   pub head : (i : ℕ) → 1 ≤ i → i < 4 → word t′ i ≡ word t i

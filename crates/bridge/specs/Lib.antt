@@ -5,5 +5,7 @@ pub mod Alike
 pub mod Leads
 pub mod Fired
 pub mod Seek
+pub mod Without
+pub mod Planned
 pub mod Settled
 pub mod Due

@@ -30,7 +30,12 @@ abbrev pub sought : Option Batch → Link → ℕ → Walk
 sought none link seen = Miss link seen
 sought (some d) link seen = Hit (d .slot) link seen
 
--- what hangs at the end of the way to a key, and the tree with something else there
+-- a register beside a son; beside none it is 0
+abbrev pub beside : ℕ → Tree → ℕ
+beside a leaf = 0
+beside a (node d x y l r) = a
+
+-- what hangs at the end of the way to a key, and the tree with something else, or nothing, there
 unfoldable pub endOf : ℕ → Tree → Tree
 endOf key leaf = leaf
 endOf key (node d a b l r) =
@@ -40,7 +45,8 @@ unfoldable pub atKey : ℕ → (Tree → Tree) → Tree → Tree
 atKey key f leaf = f leaf
 atKey key f (node d a b l r) =
     cond (eqb key (d .key)) (f (node d a b l r))
-    (cond (ltb key (d .key)) (node d a b (atKey key f l) r) (node d a b l (atKey key f r)))
+    (cond (ltb key (d .key))
+    (node d (beside a (atKey key f l)) b (atKey key f l) r) (node d a (beside b (atKey key f r)) l (atKey key f r)))
 
 -- a node with other pieces and another state in its record
 unfoldable pub amendTop : ℕ → ℕ → Tree → Tree

@@ -3,7 +3,7 @@ use Prim.Native.Nat.{ℕ, _≤_}
 use mathlib.Core.Path.{_≡_, refl, sym, _∙_, ap}
 use mathlib.Core.Bool.{false, cond}
 use mathlib.Core.Option.{Option, none, some}
-use mathlib.Core.List.{List, _∷_, _++_, map-append}
+use mathlib.Core.List.{List, [], _∷_, _++_, map, map-append, append-nil}
 use native.Mathlib.Omega.{arith}
 use lib.ListN.{length, length-map, length-append}
 use lib.Dec.{eqb, ltb}
@@ -12,10 +12,12 @@ use Rattle.scope.proofs.Bools.{by-bool}
 use Rattle.scope.specs.Tree.{Batch, Tree, leaf, node, size, inOrder, Below, Above, Ordered}
 use Rattle.scope.specs.Sums.{totalOf}
 use Rattle.bridge.specs.Seek.{seek, atKey, amendTop}
-use Rattle.bridge.proofs.Keyed.{amendedTree}
+use Rattle.bridge.specs.Without.{withoutLeast, withoutTop, withoutKey}
+use Rattle.bridge.proofs.Keyed.{by-key, amendedTree}
+use Rattle.bridge.proofs.Lowest.{least-order}
 use Rattle.bridge.proofs.Grown.{missing, grown}
-use Rattle.ledger.specs.Entries.{Entry, lookup, insert, replace, sumTo}
-use Rattle.ledger.proofs.Lists.{orElse, lookup-append, sum-append, replace-left, replace-right, NoneAfter, none-after, insert-left, insert-right}
+use Rattle.ledger.specs.Entries.{Entry, lookup, insert, replace, remove, sumTo}
+use Rattle.ledger.proofs.Lists.{orElse, lookup-append, sum-append, replace-left, replace-right, remove-left, remove-right, NoneAfter, none-after, insert-left, insert-right}
 use Rattle.demands.specs.Ledgers.{entryOf, entriesOf}
 
 -- a node's records are those on its left, its own, and those on its right
@@ -81,38 +83,62 @@ total-sum K (node d a b l r) =
 pub entries-length : (T : Tree) → length (entriesOf T) ≡ length (inOrder T)
 entries-length T = length-map (inOrder T) entryOf
 
+-- a change at the end of the way to a key is one of the list, where it is so there, and the list is left elsewhere
+module _ (key : ℕ) (f : Tree → Tree) (op : List Entry → List Entry)
+    (op-left : (xs ys : List Entry) → lookup key ys ≡ none → op (xs ++ ys) ≡ op xs ++ ys)
+    (op-right : (xs ys : List Entry) → lookup key xs ≡ none → op (xs ++ ys) ≡ xs ++ op ys)
+    (nothing : entriesOf (f leaf) ≡ op (entriesOf leaf))
+    (top : (d : Batch) (a b : ℕ) (l r : Tree) → key ≡ d .key → lookup key (entriesOf l) ≡ none
+    → entriesOf (f (node d a b l r)) ≡ entriesOf l ++ op (entryOf d ∷ entriesOf r)) where
+  past : (d : Batch) (r : Tree) → eqb key (d .key) ≡ false → op (entryOf d ∷ entriesOf r) ≡ entryOf d ∷ op (entriesOf r)
+  past d r e = op-right (entryOf d ∷ []) (entriesOf r) (unfold lookup in rw e refl)
+
+  keyed-entries : (T : Tree) → Ordered T → entriesOf (atKey key f T) ≡ op (entriesOf T)
+  unfolding Ordered
+  keyed-entries leaf h = unfold atKey in nothing
+  keyed-entries (node d a b l r) h =
+      by-key key f d a b l r (λ w E U. entriesOf U ≡ op (entriesOf (node d a b l r)))
+      (λ e. let none-l = below-none key (d .key) l (h .0) (omega (arith, eqb-true key (d .key) e)) in
+      top d a b l r (eqb-true key (d .key) e) none-l
+      ∙ sym (rw (entries-node d a b l r) (op-right (entriesOf l) (entryOf d ∷ entriesOf r) none-l)))
+      (λ e g. let none-r = above-none key (d .key) r (h .1) (omega (arith, ltb-true key (d .key) g)) in
+      entries-node d _ b (atKey key f l) r
+      ∙ ap (λ (x : List Entry). x ++ (entryOf d ∷ entriesOf r)) (keyed-entries l (h .2))
+      ∙ sym (rw (entries-node d a b l r)
+      (op-left (entriesOf l) (entryOf d ∷ entriesOf r) (unfold lookup in rw (e, none-r) refl))))
+      (λ e g. let none-l = below-none key (d .key) l (h .0) (omega (arith, ltb-false key (d .key) g)) in
+      entries-node d a _ l (atKey key f r)
+      ∙ ap (λ (x : List Entry). entriesOf l ++ (entryOf d ∷ x)) (keyed-entries r (h .3))
+      ∙ sym (rw (entries-node d a b l r) (op-right (entriesOf l) (entryOf d ∷ entriesOf r) none-l
+      ∙ ap (λ (x : List Entry). entriesOf l ++ x) (past d r e))))
+
 -- THE AMENDED TREE has the list with that record replaced
 module _ (key pieces state : ℕ) where
   abbrev new : Entry
   new = record { key = key; pieces = pieces; state = state }
 
   pub amended-entries : (T : Tree) → Ordered T → entriesOf (amendedTree key pieces state T) ≡ replace new (entriesOf T)
-  unfolding Ordered atKey amendTop
-  amended-entries leaf h = unfold inOrder replace in refl
-  amended-entries (node d a b l r) h =
-      by-bool (eqb key (d .key))
-      (λ e. simp e (top d a b l r (h .0) (eqb-true key (d .key) e)))
-      (λ e. by-bool (ltb key (d .key))
-      (λ f. simp (e, f) (entries-node d a b (amendedTree key pieces state l) r ∙ ap (λ (x : List Entry). x ++ (entryOf d ∷ entriesOf r)) (amended-entries l (h .2))
-      ∙ sym (rw (entries-node d a b l r) (replace-left new (entriesOf l) (entryOf d ∷ entriesOf r) (after d r e (above-none key (d .key) r (h .1) (omega (arith, ltb-true key (d .key) f))))))))
-      (λ f. simp (e, f) (entries-node d a b l (amendedTree key pieces state r) ∙ ap (λ (x : List Entry). entriesOf l ++ (entryOf d ∷ x)) (amended-entries r (h .3))
-      ∙ sym (rw (entries-node d a b l r) (replace-right new (entriesOf l) (entryOf d ∷ entriesOf r) (below-none key (d .key) l (h .0) (omega (arith, ltb-false key (d .key) f)))
-      ∙ ap (λ (x : List Entry). entriesOf l ++ x) (past d r e))))))
-    where
-      top : (d : Batch) (a b : ℕ) (l r : Tree) → Below (d .key) l → key ≡ d .key
-          → entriesOf (node (record { slot = d .slot; key = d .key; pieces = pieces; state = state }) a b l r) ≡ replace new (entriesOf (node d a b l r))
-      top d a b l r h e =
-          entries-node _ a b l r
-          ∙ sym (rw (entries-node d a b l r) (replace-right new (entriesOf l) (entryOf d ∷ entriesOf r) (below-none key (d .key) l h (omega arith))
-          ∙ unfold replace in rw (eq-eqb key (d .key) e, e) refl))
+  amended-entries T h =
+      keyed-entries key (amendTop pieces state) (replace new) (replace-left new) (replace-right new)
+      (unfold amendTop inOrder replace in refl)
+      (λ d a b l r e q. unfold amendTop replace in entries-node _ a b l r ∙ rw (eq-eqb key (d .key) e, e) refl)
+      T h
 
-      after : (d : Batch) (r : Tree) → eqb key (d .key) ≡ false → lookup key (entriesOf r) ≡ none
-          → lookup key (entryOf d ∷ entriesOf r) ≡ none
-      after d r e h = unfold lookup in rw (e, h) refl
+-- THE TREE WITHOUT A RECORD has the list with that record removed
+without-top : (d : Batch) (a b : ℕ) (l r : Tree) → entriesOf (withoutTop (node d a b l r)) ≡ entriesOf l ++ entriesOf r
+unfolding withoutTop
+without-top d a b leaf r = unfold inOrder in refl
+without-top d a b (node e x y l m) leaf = unfold inOrder in sym (append-nil _)
+without-top d a b (node e x y l m) (node g u v p q) =
+    entries-node _ a _ (node e x y l m) (withoutLeast g u v p q)
+    ∙ ap (λ (z : List Batch). entriesOf (node e x y l m) ++ map entryOf z) (sym (least-order g u v p q))
 
-      past : (d : Batch) (r : Tree) → eqb key (d .key) ≡ false
-          → replace new (entryOf d ∷ entriesOf r) ≡ entryOf d ∷ replace new (entriesOf r)
-      past d r e = unfold replace in rw e refl
+pub without-entries : (key : ℕ) (T : Tree) → Ordered T → entriesOf (withoutKey key T) ≡ remove key (entriesOf T)
+without-entries key T h =
+    keyed-entries key withoutTop (remove key) (remove-left key) (remove-right key)
+    (unfold withoutTop inOrder remove in refl)
+    (λ d a b l r e q. unfold remove in without-top d a b l r ∙ rw (eq-eqb key (d .key) e) refl)
+    T h
 
 pub entries-size : (T : Tree) → length (entriesOf T) ≡ size T
 unfolding size inOrder
@@ -141,9 +167,9 @@ module _ (new : Batch) where
   grown-entries (node d a b l r) e h =
       missing (new .key) d a b l r e
       (λ p left right. by-bool (ltb (new .key) (d .key))
-      (λ f. simp (p, f) (entries-node d a b (grown new l) r ∙ ap (λ (x : List Entry). x ++ (entryOf d ∷ entriesOf r)) (grown-entries l (left f) (h .2))
+      (λ f. simp (p, f) (entries-node d _ b (grown new l) r ∙ ap (λ (x : List Entry). x ++ (entryOf d ∷ entriesOf r)) (grown-entries l (left f) (h .2))
       ∙ sym (rw (entries-node d a b l r) (insert-left (entryOf new) (entriesOf l) (entryOf d) (entriesOf r) f))))
-      (λ f. simp (p, f) (entries-node d a b l (grown new r) ∙ ap (λ (x : List Entry). entriesOf l ++ (entryOf d ∷ x)) (grown-entries r (right f) (h .3))
+      (λ f. simp (p, f) (entries-node d a _ l (grown new r) ∙ ap (λ (x : List Entry). entriesOf l ++ (entryOf d ∷ x)) (grown-entries r (right f) (h .3))
       ∙ sym (rw (entries-node d a b l r) (insert-right (entryOf new) (entriesOf l) (entryOf d ∷ entriesOf r)
       (below-before (new .key) (d .key) l (h .0) (omega (arith, ltb-false (new .key) (d .key) f)))
       ∙ ap (λ (x : List Entry). entriesOf l ++ x) (behind d r f))))))

@@ -13,11 +13,14 @@ pub mod Answers
 pub mod Ranks
 pub mod Amending
 pub mod Posting
+pub mod Dropping
 pub mod Firing
+pub mod Sequence
 pub mod Stuck
 -- tidy is its firings
 pub mod Enabled
 pub mod Tidying
 pub mod Tidied
 -- the promises exclude what does nothing
+pub mod AnyCalls
 pub mod Teeth

@@ -4,3 +4,4 @@ pub mod Tidying
 pub mod Short
 pub mod Listed
 pub mod Ledgers
+pub mod Sequence

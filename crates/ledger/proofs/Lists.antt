@@ -1,13 +1,13 @@
 -- Two lists of records one after the other. Assumes nothing.
 use Prim.Native.Nat.{ℕ, _+_}
-use mathlib.Core.Path.{_≡_, refl}
-use mathlib.Core.Bool.{true, false}
+use mathlib.Core.Path.{_≡_, refl, sym, _∙_, ap}
+use mathlib.Core.Bool.{true, false, cond}
 use mathlib.Core.Option.{Option, none, some}
-use mathlib.Core.List.{List, [], _∷_, _++_}
+use mathlib.Core.List.{List, [], _∷_, _++_, append-assoc}
 use native.Mathlib.Omega.{arith}
 use lib.Dec.{eqb, ltb}
 use Rattle.scope.proofs.Bools.{by-bool}
-use Rattle.ledger.specs.Entries.{Entry, lookup, insert, replace, sumTo}
+use Rattle.ledger.specs.Entries.{Entry, lookup, insert, replace, remove, sumTo}
 
 -- the first, where it is there
 abbrev pub orElse : Option Entry → Option Entry → Option Entry
@@ -34,22 +34,43 @@ not-here key x xs e k =
     (λ p. let q = simp p at e in let z : _≡_ {A = ℕ} 0 1 = cc in absurd (omega arith))
     (λ p. k p (simp p at e))
 
-module _ (new : Entry) where
-  replace-none : (xs : List Entry) → lookup (new .key) xs ≡ none → replace new xs ≡ xs
-  unfolding replace
-  replace-none [] e = refl
-  replace-none (x ∷ xs) e = not-here (new .key) x xs e (λ p q. simp (p, replace-none xs q))
+-- an operation that puts `mid` where the first record with a stamp is
+module _ (key : ℕ) (mid : List Entry) (op : List Entry → List Entry) (nil : op [] ≡ [])
+    (step : (x : Entry) (xs : List Entry) → op (x ∷ xs) ≡ cond (eqb key (x .key)) (mid ++ xs) (x ∷ op xs)) where
+  op-none : (xs : List Entry) → lookup key xs ≡ none → op xs ≡ xs
+  op-none [] e = nil
+  op-none (x ∷ xs) e = not-here key x xs e (λ p q. step x xs ∙ rw (p, op-none xs q) refl)
 
+  op-left : (xs ys : List Entry) → lookup key ys ≡ none → op (xs ++ ys) ≡ op xs ++ ys
+  op-left [] ys e = rw nil (op-none ys e)
+  op-left (x ∷ xs) ys e =
+      rw (step x (xs ++ ys), step x xs)
+      (by-bool (eqb key (x .key))
+      (λ p. rw p (sym (append-assoc mid xs ys))) (λ p. rw p (ap (λ zs. x ∷ zs) (op-left xs ys e))))
+
+  op-right : (xs ys : List Entry) → lookup key xs ≡ none → op (xs ++ ys) ≡ xs ++ op ys
+  op-right [] ys e = refl
+  op-right (x ∷ xs) ys e =
+      not-here key x xs e (λ p q. step x (xs ++ ys) ∙ rw p (ap (λ zs. x ∷ zs) (op-right xs ys q)))
+
+-- so a record is replaced, or removed, in the part that has its stamp
+module _ (new : Entry) where
   pub replace-left : (xs ys : List Entry) → lookup (new .key) ys ≡ none → replace new (xs ++ ys) ≡ replace new xs ++ ys
   unfolding replace
-  replace-left [] ys e = replace-none ys e
-  replace-left (x ∷ xs) ys e =
-      by-bool (eqb (new .key) (x .key)) (λ p. simp p) (λ p. simp (p, replace-left xs ys e))
+  replace-left xs ys e = op-left (new .key) (new ∷ []) (replace new) refl (λ x zs. refl) xs ys e
 
   pub replace-right : (xs ys : List Entry) → lookup (new .key) xs ≡ none → replace new (xs ++ ys) ≡ xs ++ replace new ys
   unfolding replace
-  replace-right [] ys e = refl
-  replace-right (x ∷ xs) ys e = not-here (new .key) x xs e (λ p q. simp (p, replace-right xs ys q))
+  replace-right xs ys e = op-right (new .key) (new ∷ []) (replace new) refl (λ x zs. refl) xs ys e
+
+module _ (key : ℕ) where
+  pub remove-left : (xs ys : List Entry) → lookup key ys ≡ none → remove key (xs ++ ys) ≡ remove key xs ++ ys
+  unfolding remove
+  remove-left xs ys e = op-left key [] (remove key) refl (λ x zs. refl) xs ys e
+
+  pub remove-right : (xs ys : List Entry) → lookup key xs ≡ none → remove key (xs ++ ys) ≡ xs ++ remove key ys
+  unfolding remove
+  remove-right xs ys e = op-right key [] (remove key) refl (λ x zs. refl) xs ys e
 
 -- no stamp of a list is larger
 abbrev pub NoneAfter : ℕ → List Entry → Type 0

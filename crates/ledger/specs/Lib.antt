@@ -1,3 +1,4 @@
 -- What a ledger is and what the calls do to it.
 pub mod Entries
 pub mod Ledger
+pub mod Sequence

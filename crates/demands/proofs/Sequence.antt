@@ -1,0 +1,77 @@
+-- Demand 2: any list of calls on a sound table is that list on the ledger. Assumes of tidy what its statements say.
+use Prim.Native.Nat.{ℕ}
+use mathlib.Core.Path.{_≡_, refl, _∙_, ap}
+use mathlib.Core.Option.{some}
+use mathlib.Core.List.{List, [], _∷_}
+use Rattle.scope.specs.Calls.{Call, Start, Check, Find, Post, Amend, Drop, Rank, Total, Worth, Fire, Tidy, answerOf, tableOf, answers, after}
+use Rattle.scope.specs.declared.answer.Answer.{Answer}
+use Rattle.words.specs.Ready.{Sized}
+use Rattle.sound.specs.Whole.{Whole}
+use Rattle.ledger.specs.Sequence.{ledgerAnswer, ledgerAfter, ledgerAnswers, ledgerAfterAll}
+use Rattle.demands.specs.Sequence.{apart, allApart, SameCall, SameCalls, TidyKeeps}
+use Rattle.demands.proofs.Open.{check-whole}
+use Rattle.demands.proofs.Answers.{find-ledger, rank-ledger, total-ledger}
+use Rattle.demands.proofs.Posting.{post-ledger}
+use Rattle.demands.proofs.Amending.{amend-ledger}
+use Rattle.demands.proofs.Dropping.{drop-ledger}
+use Rattle.demands.proofs.Firing.{fire-ledger, start-ledger}
+
+abbrev told : {a b : Answer} → a ≡ b → some a ≡ some b
+told e = ap (λ (a : Answer). some a) e
+
+-- start asks for nothing but the length
+start-same : {t : List ℕ} {c : ℕ} → Sized t c → SameCall Start t c
+unfolding apart answerOf tableOf ledgerAnswer ledgerAfter
+start-same z =
+    let s = start-ledger z in
+    record { answer = told (s .answer); whole = s .whole; ledger = s .ledger }
+
+-- one call
+pub call-ledger : TidyKeeps → {t : List ℕ} {c : ℕ} → Whole t c → (x : Call) → SameCall x t c
+unfolding apart answerOf tableOf ledgerAnswer ledgerAfter
+call-ledger keeps w Start = start-same (w .sized)
+call-ledger keeps w Check = record { answer = told (check-whole w); whole = w; ledger = refl }
+call-ledger keeps w (Find key) = record { answer = told (find-ledger w key); whole = w; ledger = refl }
+call-ledger keeps w (Post key pieces state) =
+    let d = post-ledger w key pieces state in
+    record { answer = told (d .answer); whole = d .whole; ledger = d .ledger }
+call-ledger keeps w (Amend key pieces state) =
+    let d = amend-ledger w key pieces state in
+    record { answer = told (d .answer); whole = d .whole; ledger = d .ledger }
+call-ledger keeps w (Drop key) =
+    let d = drop-ledger w key in
+    record { answer = told (d .answer); whole = d .whole; ledger = d .ledger }
+call-ledger keeps w (Rank r) = record { answer = told (rank-ledger w r); whole = w; ledger = refl }
+call-ledger keeps w (Total K) = record { answer = told (total-ledger w K); whole = w; ledger = refl }
+call-ledger keeps w Worth = record { answer = refl; whole = w; ledger = refl }
+call-ledger keeps w (Fire rule holder side) =
+    let d = fire-ledger w rule holder side in
+    record { answer = refl; whole = d .whole; ledger = d .ledger }
+call-ledger keeps {t} {c} w (Tidy budget) =
+    let d = keeps t c budget w in
+    record { answer = refl; whole = d .0; ledger = d .1 }
+
+-- a call, and then the others
+and-then : {t : List ℕ} {c : ℕ} (x : Call) (xs : List Call) → SameCall x t c → SameCalls xs (tableOf x t) c
+    → SameCalls (x ∷ xs) t c
+unfolding allApart answers after ledgerAnswers ledgerAfterAll
+and-then x xs s r =
+    record {
+      each = rw (s .answer, r .each, s .ledger) refl;
+      whole = r .whole;
+      ledger = r .ledger ∙ ap (ledgerAfterAll xs) (s .ledger);
+    }
+
+-- ANY CALLS from a sound table
+pub calls-ledger : TidyKeeps → {t : List ℕ} {c : ℕ} → Whole t c → (xs : List Call) → SameCalls xs t c
+unfolding allApart answers after ledgerAnswers ledgerAfterAll
+calls-ledger keeps w [] = record { each = refl; whole = w; ledger = refl }
+calls-ledger keeps w (x ∷ xs) =
+    let s = call-ledger keeps w x in
+    and-then x xs s (calls-ledger keeps (s .whole) xs)
+
+-- ANY CALLS AFTER START, whatever the words were
+pub started-ledger : TidyKeeps → {t : List ℕ} {c : ℕ} → Sized t c → (xs : List Call) → SameCalls (Start ∷ xs) t c
+started-ledger keeps z xs =
+    let s = start-same z in
+    and-then Start xs s (calls-ledger keeps (s .whole) xs)
