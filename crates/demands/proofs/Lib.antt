@@ -7,6 +7,7 @@ pub mod Listed
 pub mod Open
 pub mod Falls
 pub mod Walks
+pub mod Stuck
 -- 2: on a sound table as on the ledger
 pub mod Entries
 pub mod Answers
@@ -15,12 +16,11 @@ pub mod Amending
 pub mod Posting
 pub mod Dropping
 pub mod Firing
-pub mod Sequence
-pub mod Stuck
--- tidy is its firings
+-- 2 and 3: tidy is its firings
 pub mod Enabled
 pub mod Tidying
 pub mod Tidied
+-- 2: any list of calls
+pub mod Sequence
 -- the promises exclude what does nothing
-pub mod AnyCalls
 pub mod Teeth

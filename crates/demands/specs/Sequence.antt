@@ -3,7 +3,6 @@ use Prim.Native.Nat.{ℕ}
 use mathlib.Core.Path.{_≡_}
 use mathlib.Core.Option.{Option, none, some}
 use mathlib.Core.List.{List, [], _∷_}
-use Rattle.scope.specs.Tidy.{tidyTable}
 use Rattle.scope.specs.Calls.{Call, Start, Check, Find, Post, Amend, Drop, Rank, Total, Worth, Fire, Tidy, answerOf, tableOf, answers, after}
 use Rattle.scope.specs.declared.answer.Answer.{Answer}
 use Rattle.sound.specs.Whole.{Whole}
@@ -40,8 +39,3 @@ pub record SameCalls (xs : List Call) (t : List ℕ) (c : ℕ) : Type 0 where
   pub each : allApart xs (answers xs t) ≡ ledgerAnswers xs (ledgerOf t c)
   pub whole : Whole (after xs t) c
   pub ledger : ledgerOf (after xs t) c ≡ ledgerAfterAll xs (ledgerOf t c)
-
--- tidy leaves a sound table sound, and its ledger as it was
-abbrev pub TidyKeeps : Type 0
-TidyKeeps = (t : List ℕ) (c budget : ℕ) → Whole t c
-    → Whole (tidyTable t budget) c × (ledgerOf (tidyTable t budget) c ≡ ledgerOf t c)
