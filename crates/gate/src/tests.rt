@@ -6,7 +6,8 @@ use words::records;
 use words::root;
 use words::zero;
 ghost use mathlib.Core.Path.{_≡_};
-ghost use Rattle.scope.specs.Fit.{stateOk, piecesOk, linkOk, fitSlot, blankSlot, headerOk};
+ghost use Rattle.scope.specs.Fit.{stateOk, piecesOk, fitSlot, blankSlot, headerOk};
+ghost use Rattle.gate.specs.Parts.{burdenOf, registersOk, endsOk};
 ghost use Rattle.words.specs.Ready.{Headed};
 
 pub fn state_ok(s: u32) -> bool
@@ -21,22 +22,39 @@ pub fn pieces_ok(p: u32) -> bool
     (p != 0) & (p <= Slot::MOST_PIECES)
 }
 
-// A link and the register beside it.
-pub fn link_ok(c: usize, link: u32, height: u32) -> bool
-    ensures { λ r. ⌜ r ≡ linkOk c link height ⌝ }
+// What is added to a register before it is held to the limit: beside an empty link any height is then too high.
+pub fn burden(link: u32) -> u64
+    ensures { λ r. ⌜ r ≡ burdenOf link ⌝ }
 {
-    (link as usize <= c) & (height <= Height::MOST) & ((link != 0) | (height == 0))
+    if link == 0 { Height::MOST as u64 } else { 0 }
+}
+
+// Both registers at once: their sums are within the limit, which is all ones, exactly if their bits together are.
+pub fn registers_ok(s: Slot) -> bool
+    ensures { λ r. ⌜ r ≡ registersOk s ⌝ }
+{
+    let left = s.lefth as u64 + burden(s.left);
+    let right = s.righth as u64 + burden(s.right);
+    (left | right) <= Height::MOST as u64
+}
+
+// The first and the last word of a slot at once: 1 or 2, and 0.
+pub fn ends_ok(s: Slot) -> bool
+    ensures { λ r. ⌜ r ≡ endsOk s ⌝ }
+{
+    let ends = s.state as u64 + 4 * (s.last as u64);
+    (ends == State::POURED as u64) | (ends == State::REMELT as u64)
 }
 
 pub fn fit(c: usize, s: Slot) -> bool
     ensures { λ r. ⌜ r ≡ fitSlot c s ⌝ }
 {
-    state_ok(s.state)
+    ends_ok(s)
         & (s.key != 0)
         & pieces_ok(s.pieces)
-        & link_ok(c, s.left, s.lefth)
-        & link_ok(c, s.right, s.righth)
-        & (s.last == 0)
+        & (s.left as usize <= c)
+        & (s.right as usize <= c)
+        & registers_ok(s)
 }
 
 // Eight zeros.

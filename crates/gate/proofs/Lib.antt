@@ -1,0 +1,2 @@
+-- Laws that the functions of `gate` lean on.
+pub mod Fitting

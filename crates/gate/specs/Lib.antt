@@ -1,0 +1,2 @@
+-- The tests of a slot as `gate` makes them.
+pub mod Parts
