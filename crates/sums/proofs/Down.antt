@@ -32,6 +32,19 @@ module _ {t : List ℕ} {more x : ℕ} (h : Hangs t more x) (ne : x ≡ 0 → �
   pub in-reach : InTable t x
   in-reach = in-table x (h .sized) (omega arith) (h .link)
 
+  -- a tree with fewer slots at a link below
+  abbrev below : (S : Tree) (k : ℕ) → k ≤ h .slots → Spells t (h .slots) k S → size S ≤ more - 1 → Hangs t (more - 1) k
+  below S k le p few =
+      record {
+        slots = h .slots;
+        sized = h .sized;
+        link = le;
+        most = omega (arith, h .most);
+        tree = S;
+        reached = p;
+        few = few;
+      }
+
   forked-at : (T : Tree) → Spells t (h .slots) x T → size T ≤ more → Forked t more x (forkAt t x)
   unfolding Spells size
   forked-at leaf p few = absurd (ne p)
@@ -42,24 +55,8 @@ module _ {t : List ℕ} {more x : ℕ} (h : Hangs t more x) (ne : x ≡ 0 → �
         c = h .slots;
         slot = refl;
         fit = p .fit;
-        on-left = record {
-          slots = h .slots;
-          sized = h .sized;
-          link = fit-left (h .slots) (slotAt t x) (p .fit) .0;
-          most = omega (arith, h .most);
-          tree = l;
-          reached = p .left;
-          few = omega arith;
-        };
-        on-right = record {
-          slots = h .slots;
-          sized = h .sized;
-          link = fit-right (h .slots) (slotAt t x) (p .fit) .0;
-          most = omega (arith, h .most);
-          tree = r;
-          reached = p .right;
-          few = omega arith;
-        };
+        on-left = below l (slotAt t x .left) (fit-left (h .slots) (slotAt t x) (p .fit) .0) (p .left) (omega arith);
+        on-right = below r (slotAt t x .right) (fit-right (h .slots) (slotAt t x) (p .fit) .0) (p .right) (omega arith);
         few = omega arith;
         whole = λ c T q. unique t c (h .slots) x T (node (batchAt t x) (slotAt t x .lefth) (slotAt t x .righth) l r) q
             (record { there = p .there; fit = p .fit; holds = refl; lefth = refl; righth = refl; left = p .left; right = p .right });
