@@ -10,9 +10,10 @@ use Rattle.scope.specs.declared.rule.Rule.{Rule}
 use Rattle.scope.specs.declared.rule.RuleIs.the-variants.{Known}
 use Rattle.sound.specs.Whole.{Whole}
 use Rattle.holders.specs.Holds.{Holds}
+use Rattle.holders.specs.Away.{Elsewhere}
 use Rattle.holders.proofs.Fired.{Nodes1}
 use Rattle.holders.proofs.Untouched.{Lies}
-use Rattle.holders.proofs.Elsewhere.{Elsewhere, elsewhere}
+use Rattle.holders.proofs.Elsewhere.{elsewhere}
 use Rattle.holders.proofs.DueNodes.{linked, node-slots, nodes-lie, fired-is}
 
 -- AWAY FROM A FIRING EVERY TEST IS AS BEFORE: at a slot that is none of its nodes and none of the two holders above

@@ -21,12 +21,13 @@ use Rattle.sound.specs.Whole.{Whole}
 use Rattle.bridge.proofs.Calls.{LinkIn}
 use Rattle.bridge.proofs.Linked.{link-to}
 use Rattle.bridge.proofs.Meets.{due-meets, v-some}
-use Rattle.holders.specs.Codes.{linkOf}
+use Rattle.holders.specs.Codes.{linkOf, aboveOf}
 use Rattle.holders.specs.Holds.{Holds, Moving, editsOf, noted}
 use Rattle.holders.proofs.Links.{code-link, son-in, held-son, held-most}
 use Rattle.holders.proofs.Fired.{Nodes1, fired-holds, fired-whole}
 use Rattle.holders.proofs.Untouched.{Lies}
 use Rattle.holders.proofs.Elsewhere.{noted-at}
+use Rattle.holders.proofs.Upward.{Record, above-record}
 
 -- a number that names a slot
 named : (c k : ℕ) → (not (eqb k 0) && leb k c) ≡ true → (1 ≤ k) × (k ≤ c)
@@ -88,6 +89,13 @@ module _ {t : List ℕ} {c : ℕ} (wh : Whole t c) (v n : ℕ) (first : 1 ≤ v)
     holds-again =
         let j : Nodes1 (nodesAt t r link (word t (linkAt link))) = rw (linked .1) node-slots in
         rw fired-is (rw (linked .1) at (fired-holds wh link (linked .0) o r j))
+
+    -- the two slots above v
+    pub above-one : Record t c (aboveOf h v)
+    above-one = above-record wh o v (record { first = first; most = most; some = v-some (due-meets due) })
+
+    pub above-two : Record t c (aboveOf h (aboveOf h v))
+    above-two = above-record wh o (aboveOf h v) above-one
 
     pub may-move : Moving h nodes (r .side)
     may-move = record {

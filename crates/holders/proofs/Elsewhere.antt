@@ -24,16 +24,11 @@ use Rattle.bridge.proofs.Edited.{Rewritten, rewritten}
 use Rattle.bridge.proofs.Outside.{edited-away}
 use Rattle.holders.specs.Codes.{linkFor, codeOf, aboveOf}
 use Rattle.holders.specs.Holds.{Holds, editsOf}
+use Rattle.holders.specs.Away.{NoNode, Elsewhere}
 use Rattle.holders.proofs.Links.{side-most, code-in, son-in, held-link, held-son, held-most}
 use Rattle.holders.proofs.Fired.{Nodes1, action-edits}
 use Rattle.holders.proofs.Steady.{Agree, same-passes}
-use Rattle.holders.proofs.Untouched.{NoNode, Lies, calm, calm-there, away-there, inside-there}
-
--- slot x is none of the nodes, does not hold their link, and does not hold the slot that does
-pub record Elsewhere (h : List ℕ) (n : Nodes) (x : ℕ) : Type 0 where
-  pub node : NoNode n x
-  pub above : x ≡ aboveOf h (n .v) → ⊥
-  pub upper : x ≡ aboveOf h (aboveOf h (n .v)) → ⊥
+use Rattle.holders.proofs.Untouched.{Lies, calm, calm-there, away-there, inside-there}
 
 -- a link's number tells its holder
 half : (k : ℕ) (s : Side) → codeOf (linkFor k s) / 2 ≡ k
@@ -57,11 +52,11 @@ module _ {t : List ℕ} {c : ℕ} {h : List ℕ} (o : Holds t c h) where
 
   module _ (l : Link) (i : LinkIn c l) (p : 1 ≤ word t (linkAt l)) where
     -- the slot above v is the holder of its link
-    above-v : (l .holder ≡ 0 → ⊥) → aboveOf h (word t (linkAt l)) ≡ l .holder
+    pub above-v : (l .holder ≡ 0 → ⊥) → aboveOf h (word t (linkAt l)) ≡ l .holder
     unfolding aboveOf
     above-v ne = rw (noted-at l i p, half (l .holder) (l .side), ne-eqb (l .holder) 0 ne) refl
 
-    above-root : l .holder ≡ 0 → aboveOf h (word t (linkAt l)) ≡ word t (linkAt l)
+    pub above-root : l .holder ≡ 0 → aboveOf h (word t (linkAt l)) ≡ word t (linkAt l)
     unfolding aboveOf
     above-root e = rw (noted-at l i p, half (l .holder) (l .side), eq-eqb (l .holder) 0 e) refl
 

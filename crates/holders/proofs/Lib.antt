@@ -10,5 +10,6 @@ pub mod Fired
 pub mod Steady
 pub mod Untouched
 pub mod Elsewhere
+pub mod Upward
 pub mod DueNodes
 pub mod AsBefore

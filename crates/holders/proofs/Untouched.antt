@@ -16,6 +16,7 @@ use Rattle.bridge.specs.Edit.{Part, sonOn, registerOn, Edit, shape, withPart, e
 use Rattle.bridge.proofs.Edited.{Inside}
 use Rattle.bridge.proofs.Outside.{Away}
 use Rattle.holders.specs.Holds.{editsOf}
+use Rattle.holders.specs.Away.{NoNode}
 
 -- no register of slot k is written
 abbrev CalmPart : Part → ℕ → ℕ → Type 0
@@ -48,11 +49,6 @@ calm o k [] y a = refl
 calm o k (e ∷ es) y a = calm o k es _ (a .1) ∙ calm-part o (e .part) k (e .slot) (e .what) y (a .0)
 
 -- a slot that is none of the nodes
-pub record NoNode (n : Nodes) (x : ℕ) : Type 0 where
-  pub v : x ≡ n .v → ⊥
-  pub u : x ≡ n .u → ⊥
-  pub w : x ≡ n .w → ⊥
-
 module _ (s : Side) (n : Nodes) (x : ℕ) (a : NoNode n x) where
   -- its registers stay, and all of it if it does not hold the link either
   pub calm-there : (k : Kind) → Calm x (editsOf k s n)
