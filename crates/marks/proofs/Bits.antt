@@ -15,7 +15,7 @@ use borrow.Author.Tests.{eq-eqb, ne-eqb}
 use Rattle.marks.specs.Marks.{bitAt}
 
 -- a power of two has no other bit
-other-bit : (b i : ℕ) → (i ≡ b → ⊥) → 2 ^ b / 2 ^ i % 2 ≡ 0
+pub other-bit : (b i : ℕ) → (i ≡ b → ⊥) → 2 ^ b / 2 ^ i % 2 ≡ 0
 other-bit b i ne = go (decLt b i)
   where
     go : Dec (b < i) → 2 ^ b / 2 ^ i % 2 ≡ 0
@@ -49,33 +49,38 @@ set-other w b i ne =
 pub mask : (b : ℕ) → b < 64 → 1 * 2 ^ b % 2 ^ 64 ≡ 2 ^ b
 mask b h = ap (λ (x : ℕ). x % 2 ^ 64) (one-mul (2 ^ b)) ∙ mod-eq-of-lt (pow-lt h)
 
--- the words with bit k set
-pub marks : (m : List ℕ) (k : ℕ) → k < 4096 → length m ≡ 64 → (j : ℕ) → j < 4096
-    → bitAt (set m (k / 64) (bitOr (getD m (k / 64) 0) (2 ^ (k % 64)))) j ≡ cond (eqb j k) 1 (bitAt m j)
+-- the words with another word for slot k's: x, in which that slot's bit is y and every other bit as it was
+pub one-bit : (m : List ℕ) (k x y : ℕ) → k < 4096 → length m ≡ 64 → x / 2 ^ (k % 64) % 2 ≡ y
+    → ((i : ℕ) → (i ≡ k % 64 → ⊥) → x / 2 ^ i % 2 ≡ getD m (k / 64) 0 / 2 ^ i % 2)
+    → (j : ℕ) → j < 4096 → bitAt (set m (k / 64) x) j ≡ cond (eqb j k) y (bitAt m j)
 unfolding bitAt
-marks m k hk len j hj = go (ℕ-discrete (j / 64) (k / 64)) (ℕ-discrete (j % 64) (k % 64))
+one-bit m k x y hk len same other j hj = go (ℕ-discrete (j / 64) (k / 64)) (ℕ-discrete (j % 64) (k % 64))
   where
-    w : ℕ
-    w = getD m (k / 64) 0
-
     m′ : List ℕ
-    m′ = set m (k / 64) (bitOr w (2 ^ (k % 64)))
+    m′ = set m (k / 64) x
 
-    apart : (j ≡ k → ⊥) → bitAt m′ j ≡ bitAt m j → bitAt m′ j ≡ cond (eqb j k) 1 (bitAt m j)
-    apart ne e = e ∙ sym (ap (λ (b : Bool). cond b 1 (bitAt m j)) (ne-eqb j k ne))
+    apart : (j ≡ k → ⊥) → bitAt m′ j ≡ bitAt m j → bitAt m′ j ≡ cond (eqb j k) y (bitAt m j)
+    apart ne e = e ∙ sym (ap (λ (b : Bool). cond b y (bitAt m j)) (ne-eqb j k ne))
 
-    go : Dec (j / 64 ≡ k / 64) → Dec (j % 64 ≡ k % 64) → bitAt m′ j ≡ cond (eqb j k) 1 (bitAt m j)
+    go : Dec (j / 64 ≡ k / 64) → Dec (j % 64 ≡ k % 64) → bitAt m′ j ≡ cond (eqb j k) y (bitAt m j)
     go (no f) d =
         apart (λ e. f (ap (λ (x : ℕ). x / 64) e))
-        (ap (λ (x : ℕ). x / 2 ^ (j % 64) % 2) (getD-set-other m (k / 64) (j / 64) (bitOr w (2 ^ (k % 64))) 0 f))
+        (ap (λ (x : ℕ). x / 2 ^ (j % 64) % 2) (getD-set-other m (k / 64) (j / 64) x 0 f))
     go (yes e) (no f) =
         apart (λ e. f (ap (λ (x : ℕ). x % 64) e))
         (ap (λ (i : ℕ). getD m′ i 0 / 2 ^ (j % 64) % 2) e
-        ∙ ap (λ (x : ℕ). x / 2 ^ (j % 64) % 2) (getD-set-same m (k / 64) (bitOr w (2 ^ (k % 64))) 0 (omega arith))
-        ∙ set-other w (k % 64) (j % 64) f
+        ∙ ap (λ (x : ℕ). x / 2 ^ (j % 64) % 2) (getD-set-same m (k / 64) x 0 (omega arith))
+        ∙ other (j % 64) f
         ∙ ap (λ (i : ℕ). getD m i 0 / 2 ^ (j % 64) % 2) (sym e))
     go (yes e) (yes f) =
         let one : j ≡ k = omega arith in
-        subst (λ (x : ℕ). bitAt m′ x ≡ cond (eqb x k) 1 (bitAt m x)) (sym one)
-        (ap (λ (x : ℕ). x / 2 ^ (k % 64) % 2) (getD-set-same m (k / 64) (bitOr w (2 ^ (k % 64))) 0 (omega arith))
-        ∙ set-same w (k % 64) ∙ sym (ap (λ (b : Bool). cond b 1 (bitAt m k)) (eq-eqb k k refl)))
+        subst (λ (x : ℕ). bitAt m′ x ≡ cond (eqb x k) y (bitAt m x)) (sym one)
+        (ap (λ (x : ℕ). x / 2 ^ (k % 64) % 2) (getD-set-same m (k / 64) x 0 (omega arith))
+        ∙ same ∙ sym (ap (λ (b : Bool). cond b y (bitAt m k)) (eq-eqb k k refl)))
+
+-- the words with bit k set
+pub marks : (m : List ℕ) (k : ℕ) → k < 4096 → length m ≡ 64 → (j : ℕ) → j < 4096
+    → bitAt (set m (k / 64) (bitOr (getD m (k / 64) 0) (2 ^ (k % 64)))) j ≡ cond (eqb j k) 1 (bitAt m j)
+marks m k hk len =
+    let w = getD m (k / 64) 0 in
+    one-bit m k (bitOr w (2 ^ (k % 64))) 1 hk len (set-same w (k % 64)) (λ i. set-other w (k % 64) i)

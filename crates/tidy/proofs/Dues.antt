@@ -1,28 +1,30 @@
--- A rule that is due sees all its nodes, and its firing may be carried out. Assumes nothing.
+-- A rule that is due sees all its nodes, its firing may be carried out, and what that leaves. Assumes nothing.
 use Prim.Native.Nat.{ℕ, _≤_}
-use mathlib.Core.Path.{_≡_, _∙_}
-use mathlib.Core.Bool.{true, not, _&&_}
+use mathlib.Core.Path.{_≡_, sym, _∙_, ap}
+use mathlib.Core.Bool.{true}
 use mathlib.Core.List.{List}
 use native.Mathlib.Omega.{arith}
 use borrow.Author.Tests.{leb-true}
-use lib.Dec.{eqb}
+use lib.ListN.{getD}
 use Rattle.scope.proofs.Bools.{and-l, and-r}
 use Rattle.scope.specs.Numbers.{ruleOf}
-use Rattle.scope.specs.Table.{written}
-use Rattle.scope.specs.Rules.{highestAt, actionAt}
-use Rattle.scope.specs.Tidy.{nodesAt, present, holdsAt, dueAt, passes, firedAt}
+use Rattle.scope.specs.Rules.{highestAt}
+use Rattle.scope.specs.Tidy.{nodesAt, present, holdsAt, dueAt, passes, firedAt, linkTo}
 use Rattle.scope.specs.declared.side.Link.{Link}
 use Rattle.scope.specs.declared.rule.Rule.{Rule}
 use Rattle.scope.specs.declared.rule.RuleIs.the-variants as rule-is
 use Rattle.scope.specs.declared.outcome.Nodes.{Nodes}
 use Rattle.rules.specs.Aimed.{Within}
-use Rattle.acts.specs.Wrote.{Kept}
-use Rattle.tidy.specs.Sight.{names, sightOf}
-use Rattle.tidy.specs.Found.{Linked}
-use Rattle.tidy.specs.Running.{Due}
+use Rattle.holders.specs.Codes.{linkOf}
+use Rattle.holders.specs.Away.{Elsewhere}
+use Rattle.holders.proofs.DueNodes.{node-slots, nodes-lie, fired-is, whole-again, link-noted, holds-again, may-move, above-one, above-two}
+use Rattle.holders.proofs.AsBefore.{as-before}
+use Rattle.tidy.specs.Sight.{sightOf}
+use Rattle.tidy.specs.Roused.{Rousing}
+use Rattle.tidy.specs.Running.{Due, DueAt, Acted, Fired, SameTests}
 use Rattle.tidy.specs.declared.test.Sight.{Sight}
 use Rattle.tidy.specs.declared.test.Sight.the-variants.{Missing, Seen}
-use Rattle.tidy.proofs.Sights.{sight-is, named}
+use Rattle.tidy.proofs.Sights.{sight-is}
 
 module _ (t : List ℕ) (c v n : ℕ) {r : Rule} (d : passes true t c v n ≡ true) (e : ruleOf n ≡ rule-is.Known r) (link : Link) where
   due-at : dueAt t c r v ≡ true
@@ -38,43 +40,103 @@ module _ (t : List ℕ) (c v n : ℕ) {r : Rule} (d : passes true t c v n ≡ tr
   unfolding dueAt highestAt
   low = leb-true _ _ (and-r (holdsAt t c r v) _ due-at)
 
-  pub due-seen : sightOf t c r link v ≡ Seen (nodesAt t r link v)
+  due-seen : sightOf t c r link v ≡ Seen (nodesAt t r link v)
   due-seen = sight-is t c r link v ∙ simp there
-
-  pub due-within : 1 ≤ v → v ≤ c → link .holder ≤ c → Within c r (nodesAt t r link v)
-  due-within a b h =
-      let x = nodesAt t r link v in
-      let u = named c (x .u) (and-r (not (eqb (x .sv .state) 0)) _ (and-l _ _ there)) in
-      let w = named c (x .w) (and-r (not (eqb (x .sv .state) 0) && names c (x .u)) _ there) in
-      record {
-        nodes = record {
-          holder = h;
-          v-first = a;
-          v-most = b;
-          u-first = u .0;
-          u-most = u .1;
-          w-first = w .0;
-          w-most = w .1;
-        };
-        height = low;
-      }
 
 -- a number of no rule is never due
 pub due-unknown {ℓ} : {X : Type ℓ} (t : List ℕ) (c v n : ℕ) → passes true t c v n ≡ true → ruleOf n ≡ rule-is.Unknown → X
 unfolding passes
 due-unknown t c v n d e = let q = rw e at d in let y : _≡_ {A = ℕ} 0 1 = cc in absurd (omega arith)
 
-module _ {t : List ℕ} {c v n : ℕ} (d : Due t c v n) {r : Rule} (e : ruleOf n ≡ rule-is.Known r) {link : Link} (l : Linked t c v link)
-    {x : Sight} (s : x ≡ sightOf t c r link v) where
-  -- the sight of a rule that is due
-  pub seen-due : {y : Nodes} → x ≡ Seen y → (y ≡ nodesAt t r link v) × Within c r y
-  seen-due {y} q =
-      let p : y ≡ nodesAt t r link v = let z = due-seen t c v n (d .due) e link in cc in
-      (p, rw p (due-within t c v n (d .due) e link (d .first) (d .most) (l .holder)))
+-- the rule r of that number, the link as it was noted, and what was seen there
+module _ {t : List ℕ} {c : ℕ} {h m : List ℕ} {v n : ℕ} (d : Due t c h m v n) {r : Rule} (e : ruleOf n ≡ rule-is.Known r)
+    {link : Link} (l : link ≡ linkOf (getD h v 0)) {x : Sight} (s : x ≡ sightOf t c r link v) where
+  abbrev nodes : Nodes
+  nodes = nodesAt t r (linkTo t c v) v
+
+  seen-here : x ≡ Seen nodes
+  seen-here =
+      let k = l ∙ link-noted (d .whole) v n (d .first) (d .most) (d .due) e (d .holds) in
+      s ∙ due-seen t c v n (d .due) e link ∙ ap (λ (i : Link). Seen (nodesAt t r i v)) k
 
   pub never-missing {ℓ} : {X : Type ℓ} → x ≡ Missing → X
-  never-missing q = let z = due-seen t c v n (d .due) e link in let y : _≡_ {A = ℕ} 0 1 = cc in absurd (omega arith)
+  never-missing q = let z = seen-here in let y : _≡_ {A = ℕ} 0 1 = cc in absurd (omega arith)
 
-  pub fired-due : {y : Nodes} {u : List ℕ} → x ≡ Seen y → Kept c (written t (actionAt r y)) u → Kept c (firedAt t c v n) u
-  unfolding firedAt
-  fired-due q k = record { is = k .is ∙ simp (e, seen-due q .0, l .is); sized = k .sized }
+  nodes-are : {y : Nodes} → x ≡ Seen y → y ≡ nodes
+  nodes-are q = let z = seen-here in cc
+
+  within : Within c r nodes
+  within =
+      let a = node-slots (d .whole) v n (d .first) (d .most) (d .due) e in
+      let b = nodes-lie (d .whole) v n (d .first) (d .most) (d .due) e in
+      record {
+        nodes = record {
+          holder = b .holder;
+          v-first = a .v;
+          v-most = b .v;
+          u-first = a .u;
+          u-most = b .u;
+          w-first = a .w;
+          w-most = b .w;
+        };
+        height = low t c v n (d .due) e (linkTo t c v);
+      }
+
+  rousing : Rousing h m nodes
+  rousing =
+      let i = within .nodes in
+      let z = d .whole .sized .most in
+      let a = above-one (d .whole) v n (d .first) (d .most) (d .due) e (d .holds) in
+      let b = above-two (d .whole) v n (d .first) (d .most) (d .due) e (d .holds) in
+      record {
+        nodes = record {
+          room = d .room;
+          v-first = i .v-first;
+          v-most = omega (arith, i .v-most, z);
+          u-first = i .u-first;
+          u-most = omega (arith, i .u-most, z);
+          w-first = i .w-first;
+          w-most = omega (arith, i .w-most, z);
+        };
+        above-first = a .first;
+        above-most = omega (arith, a .most, z);
+        upper-first = b .first;
+        upper-most = omega (arith, b .most, z);
+      }
+
+  -- its firing may be carried out
+  pub due-there : {y : Nodes} → x ≡ Seen y → DueAt t c h m r y
+  due-there q =
+      rw (nodes-are q)
+      (record {
+        sized = d .whole .sized;
+        within = within;
+        moving = may-move (d .whole) v n (d .first) (d .most) (d .due) e (d .holds);
+        rousing = rousing;
+      })
+
+  same-tests : (k : ℕ) → 1 ≤ k → k ≤ c → Elsewhere h nodes k → SameTests t (firedAt t c v n) c k
+  same-tests k i j a = as-before (d .whole) (d .holds) v n (d .first) (d .most) (d .due) e k i j a true
+
+  module _ {from : ℕ} {t′ h′ m′ : List ℕ} where
+    fired-so : Acted t h m c r nodes from t′ h′ m′ → Fired t m c v n from t′ h′ m′
+    fired-so a =
+        let f = fired-is (d .whole) v n (d .first) (d .most) (d .due) e in
+        let is : t′ ≡ firedAt t c v n = a .words .is ∙ sym f in
+        let g = holds-again (d .whole) v n (d .first) (d .most) (d .due) e (d .holds) in
+        record {
+          is = is;
+          whole = rw is (whole-again (d .whole) v n (d .first) (d .most) (d .due) e);
+          holds = rw (is, a .entries .is) g;
+          room = a .roused .room;
+          first = a .roused .first;
+          most = a .roused .most;
+          off = λ k i j o.
+              let b = a .roused .off k (omega (arith, d .whole .sized .most)) o in
+              (rw is (same-tests k i j (b .0)), b .1);
+          below = λ k i j o. rw is (same-tests k i j (a .roused .below k o));
+        }
+
+    -- and is then the one that is defined
+    pub fired-due : {y : Nodes} → x ≡ Seen y → Acted t h m c r y from t′ h′ m′ → Fired t m c v n from t′ h′ m′
+    fired-due q a = fired-so (rw (nodes-are q) at a)

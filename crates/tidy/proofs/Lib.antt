@@ -1,7 +1,8 @@
 -- Laws of tidying.
 pub mod Sights
+pub mod Order
 pub mod Scanning
-pub mod Linking
+pub mod Rousing
 pub mod Dues
-pub mod Running
+pub mod Going
 pub mod Outcome

@@ -6,17 +6,10 @@ use mathlib.Core.List.{List}
 use Rattle.scope.specs.Table.{word, changeWord}
 use Rattle.scope.specs.Answers.{refused, accepted}
 use Rattle.scope.specs.Sums.{soundGate}
-use Rattle.scope.specs.Sound.{soundTable}
 use Rattle.scope.specs.Tidy.{quiet, tidied, tidyOf}
 use Rattle.scope.specs.declared.answer.Refusal.{Refusal}
 use Rattle.scope.specs.declared.answer.Gate.the-variants.{Shut, Open}
-use Rattle.words.specs.Ready.{Sized}
-use Rattle.words.proofs.Laws.{gate-passed}
 use Rattle.tidy.specs.Running.{Ran}
-
--- an open gate leads to a table of c slots
-pub gate-sized : (t : List ℕ) (c : ℕ) → soundGate t true ≡ Open c → Sized t c
-gate-sized t c e = gate-passed t true (λ n. soundTable t n) c e .sized
 
 module _ (t : List ℕ) (budget : ℕ) where
   pub tidy-shut : {why : Refusal} → soundGate t true ≡ Shut why → tidyOf t budget ≡ refused t why

@@ -1,93 +1,110 @@
--- The scan under way: what is left to scan gives what the whole scan gives, and one law for each way on or out. Assumes nothing.
-use Prim.Native.Nat.{ℕ, suc, _+_, _-_, _≤_, _<_}
-use mathlib.Core.Path.{_≡_, sym, _∙_, ap}
+-- The scan under way: where no rule passes, and one law for each way on or out. Assumes nothing.
+use Prim.Native.Nat.{ℕ, _+_, _≤_, _<_}
+use mathlib.Core.Path.{_≡_, sym, _∙_}
 use mathlib.Core.Bool.{Bool, true, false}
 use mathlib.Core.List.{List}
+use lib.ListN.{replicate, length-replicate}
 use native.Mathlib.Omega.{arith}
-use Rattle.scope.specs.Tidy.{passes, rulesFrom, slotsFrom}
-use Rattle.scope.specs.declared.outcome.Next.{Next}
+use native.Mathlib.Decide.{ℕ-discrete, decLt}
+use borrow.Author.Tests.{ne-eqb}
+use Rattle.scope.specs.Tidy.{passes}
 use Rattle.scope.specs.declared.outcome.Next.the-variants.{At, Nothing}
-use Rattle.tidy.specs.Found.{Found}
+use Rattle.words.specs.Ready.{Sized}
+use Rattle.marks.specs.Marks.{bitAt}
+use Rattle.agenda.specs.Agenda.{Cleared, Lowest}
+use Rattle.agenda.proofs.Flips.{all-marks}
+use Rattle.tidy.specs.Found.{Idle, Rested, Found}
+use Rattle.tidy.proofs.Order.{slots-none, slots-at}
 
-module _ (test : ℕ → ℕ → Bool) where
-  rules-hit : (n m v r : ℕ) (a : Next) → n ≡ suc m → test v r ≡ true → rulesFrom test n v r a ≡ At v r
-  unfolding rulesFrom
-  rules-hit n m v r a e q = rw e (simp q)
-
-  rules-on : (n m v r : ℕ) (a : Next) → n ≡ suc m → test v r ≡ false → rulesFrom test n v r a ≡ rulesFrom test m v (r + 1) a
-  unfolding rulesFrom
-  rules-on n m v r a e q = rw e (simp q)
-
-  rules-done : (n v r : ℕ) (a : Next) → n ≡ 0 → rulesFrom test n v r a ≡ a
-  unfolding rulesFrom
-  rules-done n v r a e = rw e
-
-  slots-on : (n m v : ℕ) → n ≡ suc m → slotsFrom test n v ≡ rulesFrom test 8 v 1 (slotsFrom test m (v + 1))
-  unfolding slotsFrom
-  slots-on n m v e = rw e
-
-  slots-done : (n v : ℕ) → n ≡ 0 → slotsFrom test n v ≡ Nothing
-  unfolding slotsFrom
-  slots-done n v e = rw e
-
--- at slot v
-pub record Among (limited : Bool) (t : List ℕ) (c v : ℕ) : Type 0 where
-  pub first : 1 ≤ v
-  pub most : v ≤ c + 1
-  pub left : slotsFrom (passes limited t c) (c + 1 - v) v ≡ slotsFrom (passes limited t c) c 1
-
--- at slot v and rule n
-pub record Trying (limited : Bool) (t : List ℕ) (c v n : ℕ) : Type 0 where
-  pub first : 1 ≤ v
+-- at slot v, which is on, and at rule n
+pub record Trying (limited : Bool) (t : List ℕ) (c : ℕ) (m : List ℕ) (v n : ℕ) : Type 0 where
+  pub rested : Rested limited t c m v
+  pub on : bitAt m v ≡ 1
   pub most : v ≤ c
   pub lowest : 1 ≤ n
   pub highest : n ≤ 9
-  pub left : rulesFrom (passes limited t c) (9 - n) v n (slotsFrom (passes limited t c) (c - v) (v + 1))
-      ≡ slotsFrom (passes limited t c) c 1
+  pub tried : (j : ℕ) → 1 ≤ j → j < n → passes limited t c v j ≡ false
 
-module _ {limited : Bool} {t : List ℕ} {c : ℕ} where
-  pub among-start : Among limited t c 1
-  among-start = record {
-    first = omega arith;
-    most = omega arith;
-    left = ap (λ (n : ℕ). slotsFrom (passes limited t c) n 1) (omega arith);
-  }
+module _ {limited : Bool} {t : List ℕ} {c : ℕ} {m : List ℕ} where
+  module _ {v r : ℕ} (s : Rested limited t c m v) (l : Lowest m v r) where
+    -- from v up to r every slot is off
+    idle-below : (k : ℕ) → 1 ≤ k → k ≤ c → k < r → Idle limited t c k
+    idle-below k i j h =
+        elim (decLt k v) [
+          | yes q ↦ s .below k i j q
+          | no q ↦ s .off k i j (l .off k (omega arith) h)
+        ]
 
-  module _ {v : ℕ} (s : Among limited t c v) where
-    pub among-end : c < v → Found limited t c Nothing
-    among-end h =
-        record { is = sym (slots-done (passes limited t c) (c + 1 - v) v (omega (arith, h))) ∙ s .left; passing = tt }
+    pub none-found : c < r → Found limited t c m Nothing
+    none-found h = record {
+      is = sym (slots-none (passes limited t c) c 1 (λ k p q. idle-below k p (omega arith) (omega arith)));
+      stopped = tt;
+    }
 
-    pub trying-start : v ≤ c → Trying limited t c v 1
-    trying-start h = record {
-      first = s .first;
+    pub trying-start : Sized t c → r ≤ c → Trying limited t c m r 1
+    trying-start z h = record {
+      rested = record {
+        room = s .room;
+        first = omega (arith, s .first, l .first);
+        most = omega arith;
+        off = s .off;
+        below = λ k i j q. idle-below k i j q;
+      };
+      on = l .on (omega (arith, z .most));
       most = h;
       lowest = omega arith;
       highest = omega arith;
-      left = sym (slots-on (passes limited t c) (c + 1 - v) (c - v) v (omega (arith, h))) ∙ s .left;
+      tried = λ j p q. absurd (omega arith);
     }
 
-  module _ {v n : ℕ} (s : Trying limited t c v n) where
-    pub trying-hit : n ≤ 8 → passes limited t c v n ≡ true → Found limited t c (At v n)
-    trying-hit h q = record {
-      is = sym (rules-hit (passes limited t c) (9 - n) (8 - n) v n _ (omega (arith, h)) q) ∙ s .left;
-      passing = (s .first, s .most, q);
-    }
-
-    pub trying-on : n ≤ 8 → passes limited t c v n ≡ false → Trying limited t c v (n + 1)
-    trying-on h q = record {
-      first = s .first;
+  module _ {v n : ℕ} (s : Trying limited t c m v n) where
+    pub trying-on : n ≤ 8 → passes limited t c v n ≡ false → Trying limited t c m v (n + 1)
+    trying-on h e = record {
+      rested = s .rested;
+      on = s .on;
       most = s .most;
       lowest = omega arith;
-      highest = omega (arith, h);
-      left = sym (rules-on (passes limited t c) (9 - n) (9 - (n + 1)) v n _ (omega (arith, h)) q) ∙ s .left;
+      highest = omega arith;
+      tried = λ j p q. elim (ℕ-discrete j n) [
+        | yes i ↦ rw i e
+        | no i ↦ s .tried j p (omega arith)
+      ];
     }
 
-    pub trying-end : 8 < n → Among limited t c (v + 1)
-    trying-end h = record {
+    pub trying-hit : n ≤ 8 → passes limited t c v n ≡ true → Found limited t c m (At v n)
+    trying-hit h e = record {
+      is = sym (slots-at (passes limited t c) c 1 v n (s .rested .first) (omega (arith, s .most))
+          (λ i p q. s .rested .below i p (omega (arith, s .most)) q) (s .lowest) h (s .tried) e);
+      stopped = record { first = s .rested .first; most = s .most; due = e; rested = s .rested };
+    }
+
+    -- no rule passes at v, and it is taken off
+    idle-here : 8 < n → Idle limited t c v
+    idle-here h j p q = s .tried j p (omega arith)
+
+    pub trying-end : Sized t c → 8 < n → {m′ : List ℕ} → Cleared m v m′ → Rested limited t c m′ (v + 1)
+    trying-end z h x = record {
+      room = x .room;
       first = omega arith;
       most = omega (arith, s .most);
-      left = ap (λ (k : ℕ). slotsFrom (passes limited t c) k (v + 1)) (omega (arith, s .most))
-          ∙ sym (rules-done (passes limited t c) (9 - n) v n _ (omega (arith, h, s .highest)))
-          ∙ s .left;
+      off = λ k i j e. elim (ℕ-discrete k v) [
+        | yes q ↦ rw q (idle-here h)
+        | no q ↦
+            let f = rw (ne-eqb k v q) at (x .bits k (omega (arith, z .most))) in
+            s .rested .off k i j (sym f ∙ e)
+      ];
+      below = λ k i j l. elim (ℕ-discrete k v) [
+        | yes q ↦ rw q (idle-here h)
+        | no q ↦ s .rested .below k i j (omega arith)
+      ];
     }
+
+-- every slot is on at first
+pub all-on : {limited : Bool} {t : List ℕ} {c : ℕ} → Sized t c → Rested limited t c (replicate 64 18446744073709551615) 1
+all-on z = record {
+  room = length-replicate {A = ℕ} 64 18446744073709551615;
+  first = omega arith;
+  most = omega arith;
+  off = λ k i j e. absurd (omega (arith, all-marks k (omega (arith, z .most))));
+  below = λ k i j l. absurd (omega arith);
+}

@@ -1,18 +1,18 @@
 // The stated order: the lowest slot, then the lowest rule, left by a label at the first that passes.
 use crate::test::passes;
-use scope::Link;
 use scope::Next;
 use scope::Rule;
-use scope::Side;
 ghost use Rattle.words.specs.Ready.{Sized};
-ghost use Rattle.tidy.specs.Found.{Found, Linked};
+ghost use Rattle.tidy.specs.Found.{Rested, Found};
 
-pub fn first(limited: bool, t: &[u32], c: usize) -> Next
-    requires { ⌜ Sized (now t) c ⌝ }
-    ensures { λ x. ⌜ Found limited (now (t .entry)) c x ⌝ }
+// Looks only at slots that are on, from a given one on, and takes off those at which no rule passes.
+pub fn first(limited: bool, t: &[u32], c: usize, m: &mut [u64; 64], from: usize) -> Next
+    requires { ⌜ Sized (now t) c × Rested limited (now t) c (now m) from ⌝ }
+    ensures { λ x. ⌜ Found limited (now (t .entry)) c (now (m .exit)) x ⌝ }
 {
-    let mut v: usize = 1;
+    let mut v: usize = from;
     'slots: loop {
+        v = agenda::lowest(m, v);
         if c < v {
             break Next::Nothing;
         }
@@ -23,34 +23,7 @@ pub fn first(limited: bool, t: &[u32], c: usize) -> Next
             }
             n += 1;
         }
+        agenda::take_off(m, v);
         v += 1;
-    }
-}
-
-// The link that holds a slot.
-pub fn link_to(t: &[u32], c: usize, v: usize) -> Link
-    requires { ⌜ Sized (now t) c ⌝ }
-    ensures { λ x. ⌜ Linked (now (t .entry)) c v x ⌝ }
-{
-    let mut k: usize = 1;
-    while k <= c {
-        let s = words::slot_at(t, k);
-        if words::son(s, Side::Left) == v {
-            return Link {
-                holder: k,
-                side: Side::Left,
-            };
-        }
-        if words::son(s, Side::Right) == v {
-            return Link {
-                holder: k,
-                side: Side::Right,
-            };
-        }
-        k += 1;
-    }
-    Link {
-        holder: Link::ROOT,
-        side: Side::Left,
     }
 }

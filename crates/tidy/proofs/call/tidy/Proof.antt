@@ -3,7 +3,8 @@ use mathlib.Core.Path.{sym, _∙_, ap}
 use native.Mathlib.Omega.{arith}
 use denote.Ref.{now}
 use borrow.Author.Needs.{needs}
-use Rattle.tidy.proofs.Outcome.{gate-sized, tidy-shut, tidy-open}
+use Rattle.sound.proofs.Opened.{opened}
+use Rattle.tidy.proofs.Outcome.{tidy-shut, tidy-open}
 use Rattle.scope.specs.Answers.{Done}
 use Rattle.tidy.proofs.call.tidy.Statement.{statement}
 use Rattle.tidy.proofs.call.tidy.Tie as tie
@@ -21,13 +22,13 @@ enum-known-c : tie.Need-enum-known-c
 enum-known-c c = search needs
 
 change-requires : tie.Need-change-requires
-change-requires c κs = let s = gate-sized (now (c .before .before .before .before .before .before .before .args .t)) _ (sym (c .before .before .before .before .enter-sound .ensures) ∙ c .before .before .c .given .1) in omega (arith, s .room)
+change-requires c κs = let s = opened (now (c .before .before .before .before .before .before .before .args .t)) _ _ (c .before .before .before .before .enter-sound .ensures) (c .before .before .c .given .1) .sized in omega (arith, s .room)
 
 long-requires : tie.Need-long-requires
 long-requires c κs = search needs
 
 run-requires : tie.Need-run-requires
-run-requires c κs = gate-sized (now (c .before .before .before .before .before .before .before .before .before .before .args .t)) _ (sym (c .before .before .before .before .before .before .before .enter-sound .ensures) ∙ c .before .before .before .before .before .c .given .1)
+run-requires c κs = opened (now (c .before .before .before .before .before .before .before .before .before .before .args .t)) _ _ (c .before .before .before .before .before .before .before .enter-sound .ensures) (c .before .before .before .before .before .c .given .1)
 
 long-requires-2 : tie.Need-long-requires-2
 long-requires-2 c κs = search needs

@@ -1,71 +1,20 @@
 -- `tidy::run::run` meets its contract. Assumes nothing.
-use Prim.Native.Nat.{_-_}
-use native.Mathlib.Omega.{arith}
+use Rattle.tidy.proofs.Scanning.{all-on}
 use borrow.Author.Needs.{needs}
-use Rattle.tidy.proofs.Running.{Going, going-start, going-spent, going-none, going-due, going-on}
-use Rattle.tidy.proofs.Running as running
 use Rattle.tidy.proofs.run.run.Statement.{statement}
 use Rattle.tidy.proofs.run.run.Tie as tie
 
-abbrev Inv-loop : tie.InvT-loop
-Inv-loop t₀ c budget made₀ t made = Going t₀ c budget t made
+fill-requires : tie.Need-fill-requires
+fill-requires c κs = search needs
 
-abbrev μ-loop : tie.MeasureT-loop
-μ-loop t₀ c budget made₀ t made = budget - made
+run-on-requires : tie.Need-run-on-requires
+run-on-requires c κs = let w = c .before .before .before .before .before .before .before .pre in record { whole = w; holds = c .before .before .before .fill .ensures; rested = all-on (w .sized) }
 
-loop-holds : tie.Need-loop-holds Inv-loop μ-loop
-loop-holds c = going-start (c .before .pre)
+same-length : tie.Need-same-length
+same-length c = search needs
 
-first-requires : tie.Need-first-requires Inv-loop μ-loop
-first-requires c κs = c .before .before .loop .inv .sized
-
-enum-told : tie.Need-enum-told Inv-loop μ-loop
-enum-told c = search needs
-
-enum-known-v : tie.Need-enum-known-v Inv-loop μ-loop
-enum-known-v c = search needs
-
-fire-at-requires : tie.Need-fire-at-requires Inv-loop μ-loop
-fire-at-requires c κs = going-due (c .before .before .before .before .before .before .before .loop .inv) (c .before .before .before .before .first .ensures) (c .before .before .v .given .1)
-
-add-made : tie.Need-add-made Inv-loop μ-loop
-add-made c = omega (arith, c .before .before .before .before .before .before .before .before .before .before .loop .inv .within, c .before .before .before .before .before .before .before .before .before .if1 .left)
-
-loop-less : tie.Need-loop-less Inv-loop μ-loop
-loop-less c = omega (arith, c .before .before .before .before .before .before .before .before .before .before .loop .inv .within, c .before .before .before .before .before .before .before .before .before .if1 .left)
-
-loop-again : tie.Need-loop-again Inv-loop μ-loop
-loop-again c = let g = c .before .before .before .before .before .before .before .before .before .before .loop .inv in
-    let k = c .before .before .fire-at .ensures in
-    going-on g (c .before .before .before .before .before .before .before .first .ensures) (c .before .before .before .before .before .v .given .1) (c .before .before .before .before .before .before .before .before .before .if1 .left) k (running.same-length (g .sized) (k .sized))
-
-same-length : tie.Need-same-length Inv-loop μ-loop
-same-length c = c .before .loop .inv .same
-
-returns : tie.Need-returns Inv-loop μ-loop
-returns c = going-spent (c .before .loop .inv) (c .if1 .taken)
-
-same-length-2 : tie.Need-same-length-2 Inv-loop μ-loop
-same-length-2 c = c .before .before .before .before .before .loop .inv .same
-
-returns-2 : tie.Need-returns-2 Inv-loop μ-loop
-returns-2 c = going-none (c .before .before .before .before .before .loop .inv) (c .before .before .first .ensures) (c .enum-told .given .1)
+returns : tie.Need-returns
+returns c = search needs
 
 pub run-spec : {M : Type 1} → statement M
-run-spec =
-    tie.close
-    (tie.spec
-    Inv-loop
-    μ-loop
-    loop-holds
-    first-requires
-    enum-told
-    enum-known-v
-    fire-at-requires
-    add-made
-    loop-less
-    loop-again
-    same-length
-    returns
-    same-length-2
-    returns-2)
+run-spec = tie.close (tie.spec fill-requires run-on-requires same-length returns)

@@ -2,30 +2,34 @@
 use Prim.Native.Nat.{_+_, _-_}
 use mathlib.Core.Path.{sym, _∙_}
 use native.Mathlib.Omega.{arith}
-use Rattle.tidy.proofs.Scanning.{Among, Trying, among-start, among-end, trying-start, trying-hit, trying-on, trying-end}
+use Rattle.tidy.specs.Found.{Rested}
+use Rattle.tidy.proofs.Scanning.{Trying, none-found, trying-start, trying-on, trying-hit, trying-end}
 use Rattle.tidy.proofs.scan.first.Statement.{statement}
 use Rattle.tidy.proofs.scan.first.Tie as tie
 
 abbrev Inv-loop : tie.InvT-loop
-Inv-loop limited t c v n₀ n = Trying limited t c v n
+Inv-loop limited t c m from v n₀ n = Trying limited t c m v n
 
 abbrev μ-loop : tie.MeasureT-loop
-μ-loop limited t c v n₀ n = 9 - n
+μ-loop limited t c m from v n₀ n = 9 - n
 
 abbrev Inv-slots : tie.InvT-slots
-Inv-slots limited t c v₀ v = Among limited t c v
+Inv-slots limited t c m₀ from v₀ m v = Rested limited t c m v
 
 abbrev μ-slots : tie.MeasureT-slots
-μ-slots limited t c v₀ v = c + 1 - v
+μ-slots limited t c m₀ from v₀ m v = c + 1 - v
 
 slots-holds : tie.Need-slots-holds Inv-loop μ-loop Inv-slots μ-slots
-slots-holds c = among-start
+slots-holds c = c .before .pre .1
+
+lowest-requires : tie.Need-lowest-requires Inv-loop μ-loop Inv-slots μ-slots
+lowest-requires c κs = let s = c .before .slots .inv in omega (arith, s .most, c .before .before .before .pre .0 .most)
 
 loop-holds : tie.Need-loop-holds Inv-loop μ-loop Inv-slots μ-slots
-loop-holds c = trying-start (c .before .slots .inv) (c .if1 .left)
+loop-holds c = trying-start (c .before .before .before .slots .inv) (c .before .lowest .ensures) (c .before .before .before .before .before .pre .0) (c .if1 .left)
 
 passes-requires : tie.Need-passes-requires Inv-loop μ-loop Inv-slots μ-slots
-passes-requires c κs = let s = c .before .loop .inv in record { sized = c .before .before .before .before .before .pre; first = s .first; most = s .most }
+passes-requires c κs = let s = c .before .loop .inv in record { sized = c .before .before .before .before .before .before .before .pre .0; first = s .rested .first; most = s .most }
 
 add-n : tie.Need-add-n Inv-loop μ-loop Inv-slots μ-slots
 add-n c = omega (arith, c .before .before .before .loop .inv .highest)
@@ -36,17 +40,20 @@ loop-less c = omega (arith, c .before .before .loop-test .taken)
 loop-again : tie.Need-loop-again Inv-loop μ-loop Inv-slots μ-slots
 loop-again c = trying-on (c .before .before .before .loop .inv) (c .before .before .loop-test .taken) (sym (c .before .passes .ensures) ∙ c .if2 .left)
 
+take-off-requires : tie.Need-take-off-requires Inv-loop μ-loop Inv-slots μ-slots
+take-off-requires c κs = let s = c .before .before .loop .inv in (omega (arith, s .most, c .before .before .before .before .before .before .before .before .pre .0 .most), s .rested .room, s .on)
+
 add-v : tie.Need-add-v Inv-loop μ-loop Inv-slots μ-slots
-add-v c = omega (arith, c .before .loop .inv .most)
+add-v c = omega (arith, c .before .before .before .loop .inv .most, c .before .before .before .before .before .before .before .before .before .pre .0 .most)
 
 slots-less : tie.Need-slots-less Inv-loop μ-loop Inv-slots μ-slots
-slots-less c = omega (arith, c .before .loop .inv .most)
+slots-less c = omega (arith, c .before .before .before .loop .inv .most, c .before .before .before .before .before .lowest .ensures .first)
 
 slots-again : tie.Need-slots-again Inv-loop μ-loop Inv-slots μ-slots
-slots-again c = trying-end (c .before .loop .inv) (c .loop-test .left)
+slots-again c = trying-end (c .before .before .before .loop .inv) (c .before .before .before .before .before .before .before .before .before .pre .0) (c .before .before .loop-test .left) (c .take-off .ensures)
 
 returns : tie.Need-returns Inv-loop μ-loop Inv-slots μ-slots
-returns c = among-end (c .before .slots .inv) (c .if1 .taken)
+returns c = none-found (c .before .before .before .slots .inv) (c .before .lowest .ensures) (c .if1 .taken)
 
 returns-2 : tie.Need-returns-2 Inv-loop μ-loop Inv-slots μ-slots
 returns-2 c = trying-hit (c .before .before .before .loop .inv) (c .before .before .loop-test .taken) (sym (c .before .passes .ensures) ∙ c .if2 .taken)
@@ -60,11 +67,13 @@ first-spec =
     Inv-slots
     μ-slots
     slots-holds
+    lowest-requires
     loop-holds
     passes-requires
     add-n
     loop-less
     loop-again
+    take-off-requires
     add-v
     slots-less
     slots-again

@@ -1,0 +1,3 @@
+-- Laws of the agenda.
+pub mod Flips
+pub mod Seeking

@@ -1,0 +1,2 @@
+-- What the functions of `agenda` promise.
+pub mod Agenda

@@ -1,0 +1,56 @@
+// One bit for each slot at which a rule may be due: put on, taken off, and the lowest that is on.
+ghost use mathlib.Core.Path.{_≡_};
+ghost use Prim.Native.Nat.{_≤_, _<_};
+ghost use lib.ListN.{length};
+ghost use Rattle.marks.specs.Marks.{bitAt};
+ghost use Rattle.agenda.specs.Agenda.{Cleared, Past, Lowest, Woken};
+
+// One more than the largest slot that has a bit.
+pub const SLOTS: usize = 4096;
+
+// A word with every bit on.
+pub const ALL_ON: u64 = 18446744073709551615;
+
+// Takes off slot k, which is on, and no other.
+pub fn take_off(m: &mut [u64; 64], k: usize)
+    requires { ⌜ (k < 4096) × (length (now m) ≡ 64) × (bitAt (now m) k ≡ 1) ⌝ }
+    ensures { λ _. ⌜ Cleared (now (m .entry)) k (now (m .exit)) ⌝ }
+{
+    let at = k / 64;
+    let b = k % 64;
+    let w = m[at];
+    m[at] = w ^ (1 << b);
+}
+
+// Puts slot k on, and says which of two numbers is lower.
+pub fn put_on(m: &mut [u64; 64], low: usize, k: usize) -> usize
+    requires { ⌜ (k < 4096) × (length (now m) ≡ 64) ⌝ }
+    ensures { λ r. ⌜ Woken (now (m .entry)) low k r (now (m .exit)) ⌝ }
+{
+    marks::mark(m, k);
+    if low < k { low } else { k }
+}
+
+// Where to look after slot k: past all the slots of its word, if none of them is on.
+pub fn past(m: &[u64; 64], k: usize) -> usize
+    requires { ⌜ k < 4096 ⌝ }
+    ensures { λ r. ⌜ Past (now (m .entry)) k r ⌝ }
+{
+    let at = k / 64;
+    if m[at] == 0 { 64 * at + 64 } else { k + 1 }
+}
+
+// The lowest slot from a given one on that is on, or 4,096 for none.
+pub fn lowest(m: &[u64; 64], from: usize) -> usize
+    requires { ⌜ from ≤ 4096 ⌝ }
+    ensures { λ r. ⌜ Lowest (now (m .entry)) from r ⌝ }
+{
+    let mut k: usize = from;
+    while k < SLOTS {
+        if marks::marked(m, k) {
+            return k;
+        }
+        k = past(m, k);
+    }
+    k
+}

@@ -1,0 +1,31 @@
+-- A link as a number: twice its holder, and one more on the right; 0 is the root's. Assumes nothing: these are definitions.
+use Prim.Native.Nat.{ℕ, _+_, _*_, _/_, _%_}
+use mathlib.Core.Bool.{cond}
+use mathlib.Core.List.{List}
+use lib.ListN.{getD}
+use lib.Dec.{eqb}
+use Rattle.scope.specs.Table.{word, linkAt}
+use Rattle.scope.specs.declared.side.Side.{Side}
+use Rattle.scope.specs.declared.side.Side.the-variants.{Left, Right}
+use Rattle.scope.specs.declared.side.Link.{Link}
+
+abbrev pub linkFor : ℕ → Side → Link
+linkFor k s = record { holder = k; side = s }
+
+abbrev pub sideNumber : Side → ℕ
+sideNumber Left = 0
+sideNumber Right = 1
+
+unfoldable pub codeOf : Link → ℕ
+codeOf l = 2 * l .holder + sideNumber (l .side)
+
+unfoldable pub linkOf : ℕ → Link
+linkOf q = linkFor (q / 2) (cond (eqb (q % 2) 0) Left Right)
+
+-- the slot that hangs at the link of a number
+unfoldable pub heldAt : List ℕ → ℕ → ℕ
+heldAt t q = word t (linkAt (linkOf q))
+
+-- the slot that holds slot k by what is noted, or k itself at the root
+unfoldable pub aboveOf : List ℕ → ℕ → ℕ
+aboveOf h k = cond (eqb (getD h k 0 / 2) 0) k (getD h k 0 / 2)
