@@ -17,7 +17,7 @@ use Rattle.scope.specs.declared.rule.Pair.{Pair}
 use Rattle.scope.specs.declared.side.Side.{Side}
 use Rattle.scope.specs.declared.side.Link.{Link}
 use Rattle.words.specs.Ready.{Sized}
-use Rattle.words.proofs.Laws.{fit-son}
+use Rattle.words.proofs.Laws.{fit-son, link-son}
 use Rattle.sound.proofs.Frame.{frame}
 use Rattle.tree.specs.Rewrite.{mk}
 use Rattle.tree.proofs.Sides.{times-mk}
@@ -25,7 +25,7 @@ use Rattle.bridge.specs.Edit.{sonOn, registerOn, withPart, shape}
 use Rattle.bridge.specs.Below.{Hangs, Below, Cut}
 use Rattle.bridge.specs.Seek.{beside}
 use Rattle.bridge.proofs.Looks.{shape-self, near-son, near-register, fit-from, Looks, look, spell}
-use Rattle.bridge.proofs.Outside.{same-one, first-slot, link-son, steady, steady-root}
+use Rattle.bridge.proofs.Outside.{same-one, first-slot, steady, steady-root}
 use Rattle.bridge.proofs.Turns.{link-on}
 
 low-register : (c x h : ℕ) → linkOk c x h ≡ true → h ≤ mostHeight

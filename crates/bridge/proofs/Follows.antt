@@ -18,11 +18,10 @@ use Rattle.scope.specs.declared.side.Side.the-variants.{Left, Right}
 use Rattle.scope.specs.declared.side.Link.{Link}
 use Rattle.scope.specs.declared.slot.Slot.{Slot}
 use Rattle.scope.specs.declared.outcome.Leftmost.the-variants as leftmost
-use Rattle.words.proofs.Laws.{fit-left}
+use Rattle.words.proofs.Laws.{fit-left, link-son}
 use Rattle.bridge.specs.Edit.{sonOn, shape, withPart}
 use Rattle.bridge.specs.Below.{Hangs, Below}
 use Rattle.bridge.specs.Without.{least, leastLink}
-use Rattle.bridge.proofs.Outside.{link-son}
 
 part-son : (s : Side) (n : ℕ) (z : Slot) → son (withPart (sonOn s) n z) s ≡ n
 unfolding withPart shape

@@ -24,9 +24,9 @@ use Rattle.sound.proofs.Ends.{once-all}
 use Rattle.tree.specs.Place.{subtree}
 use Rattle.tree.proofs.Steps.{on-top}
 use Rattle.tree.proofs.Place.{Stands, stands, one-place}
+use Rattle.words.proofs.Laws.{link-son}
 use Rattle.bridge.specs.Leads.{linkAlong, Leads}
 use Rattle.bridge.proofs.Looks.{look}
-use Rattle.bridge.proofs.Outside.{link-son}
 use Rattle.bridge.proofs.Ways.{same-none, leads, leads-holder}
 use Rattle.bridge.proofs.Along.{hangs-along}
 use Rattle.bridge.proofs.Fires.{blank-state, hangs-root}

@@ -16,7 +16,7 @@ use Rattle.scope.specs.declared.side.Side.the-variants.{Left, Right}
 use Rattle.scope.specs.declared.side.Link.{Link}
 use Rattle.scope.specs.declared.slot.Slot.{Slot}
 use Rattle.sound.specs.Whole.{Whole}
-use Rattle.bridge.proofs.Outside.{link-son}
+use Rattle.words.proofs.Laws.{link-son}
 use Rattle.bridge.proofs.Calls.{LinkIn}
 use Rattle.bridge.proofs.Held.{HeldAt, one-link, some-link}
 

@@ -1,5 +1,5 @@
 -- What edits in the slots of a tree leave outside it. Assumes nothing.
-use Prim.Native.Nat.{ℕ, _+_, _≤_}
+use Prim.Native.Nat.{ℕ, _≤_}
 use mathlib.Core.Path.{_≡_, refl, sym, _∙_, ap}
 use mathlib.Core.Bool.{cond}
 use mathlib.Core.List.{List, [], _∷_}
@@ -7,14 +7,13 @@ use native.Mathlib.Omega.{arith}
 use native.Mathlib.Decide.{ℕ-discrete, decLe}
 use lib.Dec.{eqb}
 use borrow.Author.Tests.{eq-eqb, ne-eqb}
-use Rattle.scope.specs.Table.{word, rootWord, base, linkPlace, slotAt, son, linkAt}
+use Rattle.scope.specs.Table.{word, rootWord, slotAt, linkAt}
 use Rattle.scope.specs.Tree.{Tree, times, same}
 use Rattle.scope.specs.Sound.{Spells}
-use Rattle.scope.specs.declared.side.Side.{Side}
-use Rattle.scope.specs.declared.side.Side.the-variants.{Left, Right}
 use Rattle.scope.specs.declared.side.Link.{Link}
 use Rattle.scope.specs.declared.slot.Slot.{Slot}
 use Rattle.sound.proofs.Frame.{frame, none-at-0}
+use Rattle.words.proofs.Laws.{link-son}
 use Rattle.bridge.specs.Edit.{sonOn, Edit, edit, edited, rooted}
 use Rattle.bridge.specs.Below.{relinked}
 use Rattle.bridge.proofs.Edited.{Inside, Rewritten}
@@ -64,15 +63,6 @@ module _ (c : ℕ) (S : Tree) where
   unfolding rooted
   in-rooted x [] i = refl
   in-rooted x (e ∷ es) i = rw (ne-eqb (e .slot) 0 (λ q. omega (arith, i .0 .first))) (in-rooted x es (i .1))
-
--- the number in a link is the holder's son
-pub link-son : (t : List ℕ) (l : Link) → 1 ≤ l .holder → word t (linkAt l) ≡ son (slotAt t (l .holder)) (l .side)
-unfolding linkAt slotAt
-link-son t l i = rw (ne-eqb (l .holder) 0 (λ q. omega arith)) (on (l .side))
-  where
-    on : (s : Side) → word t (base (l .holder) + linkPlace s) ≡ son (slotAt t (l .holder)) s
-    on Left = unfold slotAt in refl
-    on Right = unfold slotAt in refl
 
 -- a link that takes the number it has leaves everything
 module _ (t : List ℕ) (l : Link) where

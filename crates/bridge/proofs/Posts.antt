@@ -19,7 +19,7 @@ use Rattle.scope.specs.Post.{recordOk, leafSlot, hung}
 use Rattle.scope.specs.declared.side.Side.{Side}
 use Rattle.scope.specs.declared.side.Link.{Link}
 use Rattle.words.specs.Ready.{Sized}
-use Rattle.words.proofs.Laws.{header-root, header-count}
+use Rattle.words.proofs.Laws.{header-root, header-count, link-son}
 use Rattle.sound.specs.Whole.{Whole}
 use Rattle.sound.proofs.Frame.{frame, none-at-0}
 use Rattle.sound.proofs.Ends.{once-all}
@@ -34,7 +34,7 @@ use Rattle.bridge.specs.Seek.{seek, route, endOf}
 use Rattle.bridge.specs.Settled.{Settled, Spelled}
 use Rattle.bridge.proofs.Edited.{Rewritten, rewritten}
 use Rattle.bridge.proofs.Looks.{look}
-use Rattle.bridge.proofs.Outside.{same-one, first-slot, link-son}
+use Rattle.bridge.proofs.Outside.{same-one, first-slot}
 use Rattle.bridge.proofs.Wrote.{slot-here, slot-there, slot-head, slot-sized}
 use Rattle.bridge.proofs.Above.{below-cut}
 use Rattle.bridge.proofs.Along.{hangs-along, cut-key}

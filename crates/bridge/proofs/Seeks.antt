@@ -20,9 +20,9 @@ use Rattle.scope.specs.declared.side.Link.{Link}
 use Rattle.scope.specs.declared.slot.Slot.{Slot}
 use Rattle.scope.specs.declared.outcome.Step.the-variants.{Here, Down}
 use Rattle.scope.specs.declared.outcome.Walk.the-variants.{Hit, Miss}
+use Rattle.words.proofs.Laws.{link-son}
 use Rattle.bridge.specs.Leads.{linkAlong}
 use Rattle.bridge.specs.Seek.{seek, route, visits, sought}
-use Rattle.bridge.proofs.Outside.{link-son}
 
 module _ (t : List ℕ) (c key : ℕ) where
   empty : (more : ℕ) (l : Link) (seen : ℕ) → walkFrom t c key more 0 l seen ≡ Miss l seen

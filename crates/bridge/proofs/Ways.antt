@@ -13,11 +13,12 @@ use Rattle.scope.specs.declared.side.Side.{Side}
 use Rattle.scope.specs.declared.side.Side.the-variants.{Left, Right}
 use Rattle.scope.specs.declared.side.Link.{Link}
 use Rattle.tree.specs.Place.{subtree}
+use Rattle.words.proofs.Laws.{link-son}
 use Rattle.bridge.specs.Leads.{linkAlong, Leads}
 use Rattle.tree.proofs.Steps.{on-top}
 use Rattle.tree.proofs.Sides.{times-mk}
 use Rattle.bridge.proofs.Looks.{look}
-use Rattle.bridge.proofs.Outside.{same-one, link-son}
+use Rattle.bridge.proofs.Outside.{same-one}
 
 -- the son on a side
 abbrev sonOf : Side → Tree → Tree → Tree

@@ -14,7 +14,7 @@ use Rattle.scope.specs.declared.side.Side.{Side}
 use Rattle.scope.specs.declared.side.Side.the-variants.{Left, Right}
 use Rattle.scope.specs.declared.side.Link.{Link}
 use Rattle.sound.specs.Whole.{Whole}
-use Rattle.bridge.proofs.Outside.{link-son}
+use Rattle.words.proofs.Laws.{link-son}
 use Rattle.bridge.proofs.Along.{hangs-along}
 use Rattle.bridge.proofs.Fires.{hangs-root}
 use Rattle.bridge.proofs.Calls.{LinkIn}

@@ -1,16 +1,15 @@
 -- How a firing is aimed, node by node: one law for each way that a taken or refused slot leads. Assumes nothing.
-use Prim.Native.Nat.{ℕ, _+_, _≤_}
-use mathlib.Core.Path.{_≡_, refl, _∙_}
+use Prim.Native.Nat.{ℕ, _≤_}
+use mathlib.Core.Path.{_≡_, _∙_}
 use mathlib.Core.Bool.{true, false}
 use mathlib.Core.List.{List}
+use native.Mathlib.Omega.{arith}
 use borrow.Author.Tests.{eq-eqb, ne-eqb}
 use Rattle.scope.specs.Numbers.{other}
-use Rattle.scope.specs.Table.{word, base, slotAt, son, linkPlace, linkAt}
+use Rattle.scope.specs.Table.{word, slotAt, son, linkAt}
 use Rattle.scope.specs.Fit.{fitSlot}
 use Rattle.scope.specs.Fire.{takeOf, judged, hasThird, aimW, aimU, aimV, aim}
 use Rattle.scope.specs.declared.slot.Slot.{Slot}
-use Rattle.scope.specs.declared.side.Side.{Side}
-use Rattle.scope.specs.declared.side.Side.the-variants.{Left, Right}
 use Rattle.scope.specs.declared.side.Link.{Link}
 use Rattle.scope.specs.declared.rule.Rule.{Rule}
 use Rattle.scope.specs.declared.answer.Refusal.{Refusal}
@@ -20,7 +19,7 @@ use Rattle.scope.specs.declared.outcome.Nodes.{Nodes}
 use Rattle.scope.specs.declared.outcome.Firing.{Firing}
 use Rattle.scope.specs.declared.outcome.Firing.the-variants.{Refuse}
 use Rattle.words.specs.Ready.{Ready}
-use Rattle.words.proofs.Laws.{fit-son}
+use Rattle.words.proofs.Laws.{fit-son, link-son}
 use Rattle.rules.specs.Aimed.{Reached, Nearby, Inside, Aimed}
 use Rattle.rules.proofs.Taking.{took}
 use Rattle.rules.proofs.Judging.{may-judged}
@@ -93,16 +92,6 @@ module _ {t : List ℕ} {c : ℕ} {link : Link} (o : Reached t c link) (r : Rule
   unfolding aimV
   aim-v-got q a = let p = rw at at q in record { is = a .is ∙ simp (p, at); may = a .may }
 
--- the link in a slot is that slot's son
-on-side : (t : List ℕ) (k : ℕ) (s : Side) → word t (base k + linkPlace s) ≡ son (slotAt t k) s
-unfolding slotAt
-on-side t k Left = refl
-on-side t k Right = refl
-
-link-son : (t : List ℕ) (link : Link) → (link .holder ≡ 0 → ⊥) → word t (linkAt link) ≡ son (slotAt t (link .holder)) (link .side)
-unfolding linkAt
-link-son t link ne = simp (ne-eqb _ _ ne) (on-side t (link .holder) (link .side))
-
 -- the holder, which is none at the root's link
 module _ {t : List ℕ} {c : ℕ} (g : Ready t c) (r : Rule) (link : Link) (le : link .holder ≤ c) where
   pub reached-root : link .holder ≡ 0 → Reached t c link
@@ -123,7 +112,7 @@ module _ {t : List ℕ} {c : ℕ} (g : Ready t c) (r : Rule) (link : Link) (le :
       pub reached-slot : fitSlot c s ≡ true → Reached t c link
       reached-slot f =
           let p = rw read at f in
-          record { sized = g .sized; holder = le; holds = rw (link-son t link ne) (fit-son c (slotAt t (link .holder)) (link .side) p) }
+          record { sized = g .sized; holder = le; holds = rw (link-son t link (omega arith)) (fit-son c (slotAt t (link .holder)) (link .side) p) }
 
       pub aim-slot : {f : Firing} → fitSlot c s ≡ true → Aimed c (aimV t c r link) f → Aimed c (aim t c r link) f
       unfolding aim

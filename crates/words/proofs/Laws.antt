@@ -1,15 +1,15 @@
 -- What a passed test tells: of the length, the header, a slot, an open gate. Assumes nothing.
-use Prim.Native.Nat.{ℕ, _≤_, _<_, _/_, _%_}
+use Prim.Native.Nat.{ℕ, _+_, _≤_, _<_, _/_, _%_}
 use mathlib.Core.Path.{_≡_, refl}
 use mathlib.Core.Bool.{Bool, true, false, _&&_, not}
 use mathlib.Core.List.{List}
 use native.Mathlib.Omega.{arith}
-use borrow.Author.Tests.{leb-true, eqb-true, eqb-false}
+use borrow.Author.Tests.{leb-true, eqb-true, eqb-false, ne-eqb}
 use lib.ListN.{length}
 use lib.Dec.{eqb, leb}
 use Rattle.scope.proofs.Bools.{and-l, and-r, by-bool}
 use Rattle.scope.specs.Numbers.{slotsOf}
-use Rattle.scope.specs.Table.{word, rootWord, countWord, slotsIn, son, linkAt, linkPlace, registerAt, registerPlace, InTable}
+use Rattle.scope.specs.Table.{word, rootWord, countWord, slotsIn, base, slotAt, son, linkAt, linkPlace, registerAt, registerPlace, InTable}
 use Rattle.scope.specs.Fit.{stateOk, piecesOk, linkOk, fitSlot, headerOk}
 use Rattle.scope.specs.Answers.{gate, onSlots, admit}
 use Rattle.scope.specs.declared.slot.Slot.{Slot}
@@ -138,3 +138,12 @@ link-lt t c l s le =
 
 pub register-lt : (t : List ℕ) (c k : ℕ) (s : Side) → Sized t c → 1 ≤ k → k ≤ c → registerAt k s < length t
 register-lt t c k s z p q = omega (arith, register-le s)
+
+-- the number in a link is the holder's son
+pub link-son : (t : List ℕ) (l : Link) → 1 ≤ l .holder → word t (linkAt l) ≡ son (slotAt t (l .holder)) (l .side)
+unfolding linkAt
+link-son t l i = rw (ne-eqb (l .holder) 0 (λ q. omega arith)) (on (l .side))
+  where
+    on : (s : Side) → word t (base (l .holder) + linkPlace s) ≡ son (slotAt t (l .holder)) s
+    on Left = unfold slotAt in refl
+    on Right = unfold slotAt in refl
