@@ -1,3 +1,4 @@
 -- Laws of the mark bits.
 pub mod Bits
 pub mod Laws
+pub mod Passing

@@ -1,12 +1,12 @@
 -- How the check ends: what the scan and the pass after it find is what the definition says. Assumes nothing.
-use Prim.Native.Nat.{ℕ, _+_, _≤_, _<_}
+use Prim.Native.Nat.{ℕ, _+_, _%_, _≤_, _<_}
 use mathlib.Core.Path.{_≡_, refl, sym, ap, _∙_}
-use mathlib.Core.Bool.{Bool, true, false, _&&_}
+use mathlib.Core.Bool.{Bool, true, false}
 use mathlib.Core.List.{List}
-use native.Mathlib.Decide.{decLe}
+use native.Mathlib.Decide.{decLe, ℕ-discrete}
 use native.Mathlib.Omega.{arith}
 use lib.Dec.{eqb}
-use borrow.Author.Tests.{ne-eqb, eqb-true, eqb-false, not-true}
+use borrow.Author.Tests.{eq-eqb, ne-eqb, eqb-false, not-true}
 use Rattle.scope.proofs.Bools.{and-l, and-r, by-bool, neither}
 use Rattle.scope.specs.Table.{word, rootWord, countWord, slotAt, base}
 use Rattle.scope.specs.Fit.{stateOk, fitSlot, headerOk, blankSlot}
@@ -14,20 +14,23 @@ use Rattle.scope.specs.Tree.{Batch, Tree, leaf, node, size, same, times, Above,
 use Rattle.scope.specs.Sound.{Spells, soundTable, Sound}
 use Rattle.scope.specs.declared.slot.Slot.{Slot}
 use Rattle.words.proofs.Laws.{header-root, fit-left, fit-right}
-use Rattle.marks.specs.Marks.{bitAt}
+use Rattle.marks.specs.Marks.{bitAt, Past}
 use Rattle.marks.proofs.Laws.{bit-small}
-use Rattle.sound.specs.Scan.{Fine, Good, settledAt, RestIs}
+use Rattle.marks.proofs.Passing.{all-on}
+use Rattle.sound.specs.Scan.{Fine, Good, Scanned, scanOf, settledAt, RestIs}
 use Rattle.sound.proofs.Order.{bounded, between}
 use Rattle.sound.proofs.Spell.{unique}
+use Rattle.sound.proofs.Steps.{was-spoiled, was-left}
 use Rattle.sound.proofs.Exact.{sound-test, unsound}
 
--- one slot more is settled
-pub settled-more : (t m : List ℕ) (k : ℕ) → ((j : ℕ) → 1 ≤ j → j < k → settledAt t m j ≡ true) → settledAt t m k ≡ true
-    → (j : ℕ) → 1 ≤ j → j < k + 1 → settledAt t m j ≡ true
-settled-more t m k before here j p q =
-    elim (decLe k j) [
-      | yes h ↦ let e : k ≡ j = omega arith in rw (← e) here
-      | no h ↦ before j p (omega arith)
+-- one slot more is settled, and with it those that are passed over
+pub settled-past : (t m : List ℕ) {k r : ℕ} → ((j : ℕ) → 1 ≤ j → j < k → settledAt t m j ≡ true) → settledAt t m k ≡ true
+    → Past m k 18446744073709551615 r → (j : ℕ) → 1 ≤ j → j < r → settledAt t m j ≡ true
+unfolding settledAt
+settled-past t m {k} before here past j p q =
+    elim (decLe j k) [
+      | yes h ↦ elim (ℕ-discrete j k) [ yes e ↦ rw e here | no ne ↦ before j p (omega arith) ]
+      | no h ↦ rw (eq-eqb (bitAt m j) 1 (past .bits j (omega arith) q ∙ all-on (j % 64) (omega arith))) refl
     ]
 
 module _ (t : List ℕ) (c : ℕ) where
@@ -93,7 +96,7 @@ module _ (t : List ℕ) (c : ℕ) where
           }
 
       -- the scan finds damage
-      pub by-scan : ((T : Tree) → Fine t z c (word t rootWord) 0 4294967296 T → size T ≤ word t countWord → ⊥)
+      by-scan : ((T : Tree) → Fine t z c (word t rootWord) 0 4294967296 T → size T ≤ word t countWord → ⊥)
           → soundTable t c ≡ false
       by-scan bad = unsound t c (λ s. bad (s .tree) (sound-fine s) (omega (arith, s .count)))
 
@@ -141,9 +144,18 @@ module _ (t : List ℕ) (c : ℕ) where
             (λ u. s .rest (r .0) (r .1 .first) (r .1 .last) (ap (times (r .0)) (same-tree s) ∙ u)))
             (r .1 .not-so)))
 
-        -- all is known after both
-        pub by-all : headerOk c t ≡ true → (b : Bool) → RestIs t m c b → (eqb n 0 && b) ≡ soundTable t c
-        by-all h b r =
-            by-bool (eqb n 0)
-            (λ e. simp e (by-rest h (eqb-true n 0 e) b r))
-            (λ e. simp e (sym (by-count (eqb-false n 0 e))))
+      -- the scan finds damage, or fewer slots than word 1 says
+      pub by-missing : (n : ℕ) → (n ≡ 0 → ⊥)
+          → Scanned t z m c (word t countWord) (word t rootWord) 0 4294967296 (scanOf n) → soundTable t c ≡ false
+      by-missing n ne s =
+          elim (ℕ-discrete n 4096) [
+            | yes e ↦ by-scan (was-spoiled t z m c (word t countWord) (word t rootWord) 0 4294967296 e s)
+            | no d ↦ by-count n (was-left t z m c (word t countWord) (word t rootWord) 0 4294967296 d s) ne
+          ]
+
+      -- the scan reaches as many as word 1 says
+      pub by-pass : headerOk c t ≡ true → (n : ℕ) → n ≡ 0
+          → Scanned t z m c (word t countWord) (word t rootWord) 0 4294967296 (scanOf n)
+          → (b : Bool) → RestIs t m c b → b ≡ soundTable t c
+      by-pass h n e s b r =
+          by-rest n (was-left t z m c (word t countWord) (word t rootWord) 0 4294967296 (λ q. omega arith) s) h e b r

@@ -17,7 +17,7 @@ use Rattle.scope.specs.declared.outcome.Scan.the-variants.{Damaged, Left}
 use Rattle.words.proofs.Laws.{fit-left, fit-right}
 use Rattle.marks.specs.Marks.{bitAt, Marked}
 use Rattle.marks.proofs.Laws.{bit-small, unmarked, adds}
-use Rattle.sound.specs.Scan.{Looking, inPlace, Welcome, Inside, Between, Fine, Good, Scanned}
+use Rattle.sound.specs.Scan.{Looking, inPlace, Welcome, Inside, Between, Fine, Good, Scanned, scanOf}
 use Rattle.sound.proofs.Order.{both}
 use Rattle.sound.proofs.Spell.{topped, unique}
 
@@ -204,3 +204,23 @@ module _ (t m : List ℕ) (c x low high : ℕ) where
         pub right-part : (res : Scan) → Scanned t m₂ m₃ c n r k high res → Scanned t m m₃ c more x low high res
         right-part Damaged none′ = right-refused none′
         right-part (Left n₃) g₂ = both-good n₃ g₂
+
+-- a scan's number, and what it says
+module _ (t m m' : List ℕ) (c more x low high : ℕ) where
+  pub is-spoiled : ((T : Tree) → Fine t m c x low high T → size T ≤ more → ⊥)
+      → Scanned t m m' c more x low high (scanOf 4096)
+  unfolding scanOf
+  is-spoiled f = f
+
+  pub was-spoiled : {n : ℕ} → n ≡ 4096 → Scanned t m m' c more x low high (scanOf n)
+      → (T : Tree) → Fine t m c x low high T → size T ≤ more → ⊥
+  unfolding scanOf
+  was-spoiled {n} e s = simp (eq-eqb n 4096 e) at s
+
+  pub is-left : {n : ℕ} → n ≤ 4095 → Good t m m' c more x low high n → Scanned t m m' c more x low high (scanOf n)
+  unfolding scanOf
+  is-left {n} h g = simp (ne-eqb n 4096 (λ e. omega arith)) g
+
+  pub was-left : {n : ℕ} → (n ≡ 4096 → ⊥) → Scanned t m m' c more x low high (scanOf n) → Good t m m' c more x low high n
+  unfolding scanOf
+  was-left {n} ne s = simp (ne-eqb n 4096 ne) at s

@@ -1,7 +1,7 @@
 -- What the scan of the soundness check promises, and the pass after it. Assumes nothing: these are statements.
 use Prim.Native.Nat.{ℕ, _+_, _≤_, _<_}
 use mathlib.Core.Path.{_≡_}
-use mathlib.Core.Bool.{Bool, true, false, _&&_, _||_}
+use mathlib.Core.Bool.{Bool, true, false, cond, _&&_, _||_}
 use mathlib.Core.List.{List}
 use lib.ListN.{length}
 use lib.Dec.{eqb, ltb}
@@ -22,6 +22,11 @@ pub record Looking (t m : List ℕ) (c x : ℕ) : Type 0 where
   pub sized : Sized t c
   pub link : x ≤ c
   pub marks : length m ≡ 64
+
+-- and how many slots may still be reached
+pub record Scanning (t m : List ℕ) (c more x : ℕ) : Type 0 where
+  pub looking : Looking t m c x
+  pub few : more ≤ 4095
 
 -- the slot is fit and its key lies between two bounds
 unfoldable pub inPlace : ℕ → Slot → ℕ → ℕ → Bool
@@ -68,6 +73,10 @@ pub record Good (t m m' : List ℕ) (c more x low high n : ℕ) : Type 0 where
 abbrev pub Scanned : List ℕ → List ℕ → List ℕ → ℕ → ℕ → ℕ → ℕ → ℕ → Scan → Type 0
 Scanned t m m' c more x low high Damaged = (T : Tree) → Fine t m c x low high T → size T ≤ more → ⊥
 Scanned t m m' c more x low high (Left n) = Good t m m' c more x low high n
+
+-- a scan's number: how many are left over, or 4,096 for damage
+unfoldable pub scanOf : ℕ → Scan
+scanOf n = cond (eqb n 4096) Damaged (Left n)
 
 -- slot k is marked, or eight zeros
 unfoldable pub settledAt : List ℕ → List ℕ → ℕ → Bool

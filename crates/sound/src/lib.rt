@@ -2,7 +2,6 @@
 use scope::Answer;
 use scope::Gate;
 use scope::Refusal;
-use scope::Scan;
 use scope::Slot;
 use scope::Visit;
 ghost use mathlib.Core.Path.{_≡_};
@@ -12,7 +11,7 @@ ghost use Rattle.scope.specs.Sound.{soundTable};
 ghost use Rattle.scope.specs.Answers.{accepted};
 ghost use Rattle.scope.specs.Sums.{soundGate, checkAnswer};
 ghost use Rattle.words.specs.Ready.{Headed, Sized};
-ghost use Rattle.sound.specs.Scan.{inPlace, settledAt, Looking, Visited, Scanned, RestIs};
+ghost use Rattle.sound.specs.Scan.{inPlace, settledAt, Looking, Scanning, Visited, Scanned, scanOf, RestIs};
 
 // One more than the largest key.
 pub const PAST_KEYS: u64 = 4294967296;
@@ -45,7 +44,10 @@ pub fn visit(t: &[u32], m: &mut [u64; 64], c: usize, x: usize, low: u64, high: u
     }
 }
 
-// Scans what hangs at link x: at most `more` slots, with keys between two bounds.
+// What a scan says that finds damage: more slots than can be left over.
+pub const SPOILED: usize = 4096;
+
+// Scans slot x and what hangs below it: at most `more` slots, with keys between two bounds. Says how many are left over.
 pub fn scan(
     t: &[u32],
     m: &mut [u64; 64],
@@ -54,22 +56,43 @@ pub fn scan(
     x: usize,
     low: u64,
     high: u64,
-) -> Scan
-    requires { ⌜ Looking (now t) (now m) c x ⌝ }
-    ensures { λ r. ⌜ Scanned (now (t .entry)) (now (m .entry)) (now (m .exit)) c more x low high r ⌝ }
+) -> usize
+    requires { ⌜ (1 ≤ x) × Scanning (now t) (now m) c more x ⌝ }
+    ensures { λ r. ⌜ Scanned (now (t .entry)) (now (m .entry)) (now (m .exit)) c more x low high (scanOf r) ⌝ }
 {
-    if x == 0 {
-        return Scan::Left(more);
-    }
     if more == 0 {
-        return Scan::Damaged;
+        return SPOILED;
     }
     match visit(t, m, c, x, low, high) {
-        Visit::Refused => Scan::Damaged,
-        Visit::Entered { left, right, key } => match scan(t, m, c, more - 1, left, low, key) {
-            Scan::Damaged => Scan::Damaged,
-            Scan::Left(n) => scan(t, m, c, n, right, key, high),
-        },
+        Visit::Refused => SPOILED,
+        Visit::Entered { left, right, key } => {
+            let n = under(t, m, c, more - 1, left, low, key);
+            if n == SPOILED {
+                SPOILED
+            } else {
+                under(t, m, c, n, right, key, high)
+            }
+        }
+    }
+}
+
+// The same at a link, which may be empty.
+pub fn under(
+    t: &[u32],
+    m: &mut [u64; 64],
+    c: usize,
+    more: usize,
+    x: usize,
+    low: u64,
+    high: u64,
+) -> usize
+    requires { ⌜ Scanning (now t) (now m) c more x ⌝ }
+    ensures { λ r. ⌜ Scanned (now (t .entry)) (now (m .entry)) (now (m .exit)) c more x low high (scanOf r) ⌝ }
+{
+    if x == 0 {
+        more
+    } else {
+        scan(t, m, c, more, x, low, high)
     }
 }
 
@@ -78,10 +101,14 @@ pub fn settled(t: &[u32], m: &[u64; 64], k: usize) -> bool
     requires { ⌜ InTable (now t) k × (k ≤ 4095) ⌝ }
     ensures { λ r. ⌜ r ≡ settledAt (now (t .entry)) (now (m .entry)) k ⌝ }
 {
-    marks::marked(m, k) | gate::blank(words::slot_at(t, k))
+    if marks::marked(m, k) {
+        true
+    } else {
+        gate::blank(words::slot_at(t, k))
+    }
 }
 
-// Whether every slot that was not reached is eight zeros.
+// Whether every slot that was not reached is eight zeros; a word of marks with all on is passed over at once.
 pub fn rest_blank(t: &[u32], m: &[u64; 64], c: usize) -> bool
     requires { ⌜ Sized (now t) c ⌝ }
     ensures { λ r. ⌜ RestIs (now (t .entry)) (now (m .entry)) c r ⌝ }
@@ -89,7 +116,7 @@ pub fn rest_blank(t: &[u32], m: &[u64; 64], c: usize) -> bool
     let mut k = 1;
     while k <= c {
         if settled(t, m, k) {
-            k += 1;
+            k = marks::past(m, k, marks::ALL_ON);
         } else {
             return false;
         }
@@ -106,9 +133,11 @@ pub fn sound(t: &[u32], c: usize) -> bool
         let mut m = [0u64; 64];
         let n = words::records(t);
         let root = words::root(t);
-        match scan(t, &mut m, c, n, root, 0, PAST_KEYS) {
-            Scan::Damaged => false,
-            Scan::Left(missing) => (missing == 0) & rest_blank(t, &m, c),
+        let missing = under(t, &mut m, c, n, root, 0, PAST_KEYS);
+        if missing == 0 {
+            rest_blank(t, &m, c)
+        } else {
+            false
         }
     } else {
         false

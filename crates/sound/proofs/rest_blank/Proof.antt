@@ -4,7 +4,7 @@ use mathlib.Core.Path.{_≡_, sym, _∙_}
 use mathlib.Core.Bool.{true}
 use native.Mathlib.Omega.{arith}
 use Rattle.sound.specs.Scan.{settledAt}
-use Rattle.sound.proofs.Ends.{settled-more}
+use Rattle.sound.proofs.Ends.{settled-past}
 use Rattle.sound.proofs.rest_blank.Statement.{statement}
 use Rattle.sound.proofs.rest_blank.Tie as tie
 
@@ -20,18 +20,17 @@ loop-holds c = (omega arith, λ j p q. absurd (omega arith))
 settled-requires : tie.Need-settled-requires Inv-loop μ-loop
 settled-requires c κs = (record { first = omega arith; whole = omega arith }, omega arith)
 
-add-k : tie.Need-add-k Inv-loop μ-loop
-add-k c = omega arith
+past-requires : tie.Need-past-requires Inv-loop μ-loop
+past-requires c κs = omega arith
 
 loop-less : tie.Need-loop-less Inv-loop μ-loop
-loop-less c = omega arith
+loop-less c = omega (arith, c .past .ensures .further)
 
 loop-again : tie.Need-loop-again Inv-loop μ-loop
-loop-again c = (
-  omega arith,
-  settled-more _ _ _ (c .before .before .before .loop .inv .1) (sym (c .before .settled .ensures) ∙
-      c .if1 .taken),
-)
+loop-again c =
+    let past = c .past .ensures in
+    let here = c .before .before .before .before .loop .inv in
+    (omega (arith, past .further), settled-past _ _ (here .1) (sym (c .before .before .settled .ensures) ∙ c .before .if1 .taken) past)
 
 returns : tie.Need-returns Inv-loop μ-loop
 returns c = (
@@ -54,7 +53,7 @@ rest-blank-spec =
     μ-loop
     loop-holds
     settled-requires
-    add-k
+    past-requires
     loop-less
     loop-again
     returns

@@ -16,7 +16,17 @@ blank-requires c κs = search needs
 
 returns : tie.Need-returns
 unfolding settledAt
-returns c = simp (sym (c .before .before .marked .ensures), sym (c .before .slot-at .ensures), sym (c .blank .ensures))
+returns c = simp (sym (c .before .marked .ensures), c .if1 .taken)
+
+returns-2 : tie.Need-returns-2
+unfolding settledAt
+returns-2 c =
+    simp (
+      sym (c .before .before .before .marked .ensures),
+      c .before .before .if1 .left,
+      sym (c .before .slot-at .ensures),
+      sym (c .blank .ensures),
+    )
 
 pub settled-spec : {M : Type 1} → statement M
-settled-spec = tie.close (tie.spec marked-requires slot-at-requires blank-requires returns)
+settled-spec = tie.close (tie.spec marked-requires slot-at-requires blank-requires returns returns-2)
