@@ -1,6 +1,7 @@
-//! The limit for find: a walk on the same words that tests nothing, in the two forms that a compiler can give it.
+//! The limit for find: a walk on the same words that tests nothing, in the three forms that a compiler can give it.
 
 use crate::words::*;
+use std::hint::{black_box, select_unpredictable};
 
 /// The word of a slot, with no test of the place.
 #[inline]
@@ -19,32 +20,37 @@ unsafe fn answer(t: *const u32, k: usize, visits: u64, out: *mut u64) {
     }
 }
 
-/// The next link chosen by a branch.
-#[inline(never)]
-pub unsafe extern "C" fn bare_branch(t: *const u32, _n: usize, key: u32, out: *mut u64) {
-    let (mut k, mut visits) = (*t as usize, 0);
-    while k != 0 {
-        visits += 1;
-        let here = word(t, k, KEY);
-        if here == key {
-            break;
+/// The walk, with the son on one of two sides picked in a given way.
+macro_rules! bare {
+    ($name:ident, $son:expr) => {
+        #[inline(never)]
+        pub unsafe extern "C" fn $name(t: *const u32, _n: usize, key: u32, out: *mut u64) {
+            let (mut k, mut visits) = (*t as usize, 0);
+            while k != 0 {
+                visits += 1;
+                let here = word(t, k, KEY);
+                if here == key {
+                    break;
+                }
+                k = $son(t, k, key < here) as usize;
+            }
+            answer(t, k, visits, out)
         }
-        k = if key < here { word(t, k, LEFT) } else { word(t, k, RIGHT) } as usize;
-    }
-    answer(t, k, visits, out)
+    };
 }
 
-/// The next link read at a place that is computed: no branch on the side.
-#[inline(never)]
-pub unsafe extern "C" fn bare_move(t: *const u32, _n: usize, key: u32, out: *mut u64) {
-    let (mut k, mut visits) = (*t as usize, 0);
-    while k != 0 {
-        visits += 1;
-        let here = word(t, k, KEY);
-        if here == key {
-            break;
-        }
-        k = word(t, k, LEFT + usize::from(key > here)) as usize;
+// The son as anybody would write it: rustc reads it at a place that it computes from the comparison (setcc).
+bare!(bare_plain, |t, k, left| if left { word(t, k, LEFT) } else { word(t, k, RIGHT) });
+
+// Both sons read before the comparison is known, and one taken by a conditional move (cmov).
+bare!(bare_move, |t, k, left| select_unpredictable(left, word(t, k, LEFT), word(t, k, RIGHT)));
+
+// A jump on the comparison: an empty black box in one arm keeps the compiler from making a move of it.
+bare!(bare_jump, |t, k, left| {
+    if left {
+        black_box(());
+        word(t, k, LEFT)
+    } else {
+        word(t, k, RIGHT)
     }
-    answer(t, k, visits, out)
-}
+});

@@ -1,60 +1,99 @@
+//! Measures the proved library beside its peers in one run: `bench FOLDER` prints the results page to standard output,
+//! and writes plot.svg and the inputs of `stand` to the folder. bench/run builds it and tells it where things are.
+
 mod bare;
 mod batches;
 mod clock;
 mod dice;
 mod finds;
+mod machine;
+mod measures;
 mod ours;
 mod plain;
+mod plot;
 mod postings;
+mod report;
+mod stand;
 mod stores;
+mod targets;
 mod tidying;
 mod trees;
 mod whole;
 mod words;
 
-use batches::*;
-use std::time::Duration;
+use report::{filled, table, time, Row};
+use stand::Stood;
+use std::path::PathBuf;
+use targets::Targets;
+use tidying::Run;
 
-fn show(what: &str, best: &[clock::Best]) {
-    print!("{what:<32}");
-    for b in best {
-        print!(" {}={:.1}ns/{}", b.name, b.seconds * 1e9, b.turns);
-    }
-    println!();
-}
+/// The page with places for the numbers.
+const PAGE: &str = include_str!("../RESULTS.in.md");
 
 fn main() {
-    let share = Duration::from_millis(150);
-    let all = by_stamp(4095);
-    let random = in_order(&all, Order::Random, 0);
-    let loose = posted(&random);
-    let tight = tidying::tidied(&loose);
-    use finds::*;
-    for (n, w) in [("tidied", &tight), ("before", &loose)] {
-        for (m, wanted) in [("hits", Wanted::Hits), ("misses", Wanted::Misses)] {
-            for (q, pace) in [("free", Pace::Free), ("waiting", Pace::Waiting)] {
-                show(&format!("find {n} {m} {q}"), &finds(w, &random, wanted, pace, share));
-            }
-        }
+    let folder = PathBuf::from(std::env::args().nth(1).expect("usage: bench FOLDER"));
+    let finds = measures::all_finds();
+    let records = measures::all_records();
+    let whole = measures::all_whole();
+    let tidies = measures::all_tidies();
+    let small = measures::small_tidies();
+    let by_size = measures::tidies_by_size();
+    let panels = measures::panels(&by_size);
+    let stands = measures::all_stands(&folder);
+    std::fs::write(folder.join("plot.svg"), plot::plot(&panels)).expect("a folder that can be written");
+
+    let mut targets = Targets::new();
+    finds[..2].iter().for_each(|row| targets.find(row));
+    records.iter().chain(&whole).for_each(|row| targets.same_promise(row));
+    targets.tidy(&by_size[2].1, &by_size[4].1);
+    stands.iter().for_each(|stood| targets.stand(stood));
+
+    let turns = report::turns(&[&finds, &records, &whole]);
+    let texts = [
+        ("date", machine::told("TODAY")),
+        ("machine", machine::machine()),
+        ("tools", machine::told("TOOLS")),
+        ("absent", machine::absent()),
+        ("targets", targets.table()),
+        ("finds", table(&finds)),
+        ("records", table(&records)),
+        ("whole", table(&whole)),
+        ("tidies", table(&tidy_rows(tidies, small))),
+        ("firings", firings(&by_size)),
+        ("stand", stand_table(&stands)),
+        ("turns", format!("{} to {}", turns.0, turns.1)),
+        ("bound", measures::BOUND.to_string()),
+        ("budget", measures::BUDGET.to_string()),
+    ];
+    print!("{}", filled(PAGE, &texts));
+}
+
+/// The runs of tidy as rows, with their firings.
+fn tidy_rows(tidies: Vec<(String, Run)>, small: Run) -> Vec<Row> {
+    let rows = tidies.into_iter().map(|(name, run)| Row::new(format!("{name}: {} firings", run.firings), run.best));
+    let grown = format!("a posting and tidy({}), 4,095 times: {} firings in all", measures::BUDGET, small.firings);
+    rows.chain([Row::new(grown, small.best)]).collect()
+}
+
+/// What one firing costs at each size.
+fn firings(by_size: &[(usize, Run)]) -> String {
+    let row = |(size, run): &(usize, Run)| Row::new(format!("{size}: {} firings", run.firings), run.firings_of_all());
+    table(&by_size.iter().map(row).collect::<Vec<_>>())
+}
+
+fn stand_table(stands: &[Stood]) -> String {
+    let mut text = "| input | find lines | loop in one process | as a process | process with no input |".to_string();
+    text += " lines a second, in one process | lines a second, process less empty one |\n|---|--:|--:|--:|--:|--:|--:|\n";
+    let million = |lines: f64| format!("{:.2} million", lines / 1e6);
+    for s in stands {
+        let inside = s.inside.map_or("not measured here".into(), time);
+        let lines = s.lines_inside().map_or("-".into(), million);
+        let (process, empty) = (time(s.process), time(s.empty));
+        let outside = million(s.lines_as_process());
+        text += &format!("| {} | {} | {inside} | {process} | {empty} | {lines} | {outside} |\n", s.wanted, s.finds);
     }
-    for o in [Order::Ascending, Order::Descending, Order::Random] {
-        show(&format!("post {}", o.name()), &postings::postings(&all, o, share));
+    if stands.is_empty() {
+        text += "| the program was not built here | | | | | | |\n";
     }
-    show("drop", &postings::drops(&tight, &all, share));
-    for n in whole::NAMES {
-        show(n, &whole::whole(n, &tight, &all, share));
-    }
-    for n in [255, 1023] {
-        for o in [Order::Ascending, Order::Descending, Order::Random, Order::Zigzag] {
-            let r = tidying::whole_runs(&posted(&in_order(&by_stamp(n), o, 0)), true, share);
-            println!("{n} firings {}", r.firings);
-            show(o.name(), &r.best);
-        }
-        let r = tidying::whole_runs(&with_random_registers(&posted(&in_order(&by_stamp(n), Order::Random, 0)), 40), true, share);
-        println!("{n} firings {}", r.firings);
-        show("random registers", &r.best);
-    }
-    let r = tidying::small_budgets(&in_order(&by_stamp(255), Order::Random, 0), 8, share);
-    println!("firings {}", r.firings);
-    show("small", &r.best);
+    text
 }

@@ -22,7 +22,7 @@ pub struct Calls {
 
 pub const OURS: &str = "ours";
 pub const PLAIN: &str = "plain Rust";
-pub const BARE: [&str; 2] = ["bare walk, moves", "bare walk, branches"];
+pub const BARE: [&str; 3] = ["bare walk", "bare, moves", "bare, jumps"];
 pub const TREES: [&str; 4] = ["BTreeMap", "std::map", "avl_set", "GTree"];
 
 type WordsFind = unsafe extern "C" fn(*const u32, usize, u32, *mut u64);
@@ -80,7 +80,8 @@ pub fn promised() -> Vec<Calls> {
 
 /// The walks that test nothing.
 pub fn bare() -> Vec<Calls> {
-    vec![on_words(BARE[0], bare::bare_move, None), on_words(BARE[1], bare::bare_branch, None)]
+    let walks: [WordsFind; 3] = [bare::bare_plain, bare::bare_move, bare::bare_jump];
+    BARE.into_iter().zip(walks).map(|(name, find)| on_words(name, find, None)).collect()
 }
 
 pub struct Store {

@@ -42,15 +42,19 @@ impl Run {
     pub fn firing(&self, name: &str) -> Option<f64> {
         crate::clock::of(&self.best, name).map(|seconds| seconds / self.firings as f64)
     }
+
+    /// The same for all contestants.
+    pub fn firings_of_all(&self) -> Vec<Best> {
+        self.best.iter().map(|best| Best { seconds: best.seconds / self.firings as f64, ..*best }).collect()
+    }
 }
 
 /// Runs of tidy to the end on the same words. What each contestant's first turn left and answered is compared.
-pub fn whole_runs(words: &[u32], with_rescan: bool, share: Duration) -> Run {
+pub fn whole_runs(words: &[u32], share: Duration) -> Run {
     let copies = (1_000 / (words.len() / 8)).max(1);
     let ends: RefCell<Vec<(Answer, Vec<u32>)>> = RefCell::new(Vec::new());
     let ends_of = &ends;
-    let who = contestants().into_iter().filter(|(name, _)| with_rescan || *name != RESCAN);
-    let turns = who.map(|(name, call)| Turn {
+    let turns = contestants().into_iter().map(|(name, call)| Turn {
         name,
         go: Box::new(move |round| {
             let mut tables = vec![words.to_vec(); copies];

@@ -57,10 +57,10 @@ pub fn header_good(header: &Header, slots: usize) -> bool {
     header[ROOT] as usize <= slots && header[RECORDS] as usize <= slots && header[ZERO] == 0
 }
 
-/// A link and the register beside it.
+/// A link and the register beside it, which is 0 beside an empty link.
 #[inline]
 fn side_fit(link: u32, height: u32, slots: usize) -> bool {
-    link as usize <= slots && height <= MOST_HEIGHT && (link != 0 || height == 0)
+    link as usize <= slots && height <= if link == 0 { 0 } else { MOST_HEIGHT }
 }
 
 /// A slot that can hold a record in a table of `slots` slots.

@@ -1,6 +1,7 @@
 //! find, post and drop in plain Rust: one walk that tests each visited slot, then the stated writes.
 
 use crate::words::*;
+use std::hint::select_unpredictable;
 
 /// Where a walk ended: at a record or, with slot 0, at the empty link where it would hang.
 struct Way {
@@ -28,7 +29,7 @@ fn walk(slots: &[Slot], root: u32, key: u32) -> Option<Way> {
         }
         way.holder = way.slot;
         way.side = if key < s[KEY] { LEFT } else { RIGHT };
-        way.slot = (if key < s[KEY] { s[LEFT] } else { s[RIGHT] }) as usize;
+        way.slot = select_unpredictable(key < s[KEY], s[LEFT], s[RIGHT]) as usize;
     }
     Some(way)
 }
