@@ -24,11 +24,11 @@ pub fn timed<T>(calls: usize, work: impl FnOnce() -> T) -> f64 {
     start.elapsed().as_secs_f64() / calls as f64
 }
 
-/// Rounds that each contestant takes part in, however slow its turn is; and the most rounds.
-const LEAST_ROUNDS: u64 = 3;
+/// Rounds that each contestant takes part in whatever its share of time, and the most rounds.
+const LEAST_ROUNDS: u64 = 7;
 const MOST_ROUNDS: u64 = 400;
 
-/// Once a contestant has taken so long, it has had turns enough.
+/// But once a contestant has taken so long, it has had turns enough.
 const SLOW: Duration = Duration::from_millis(400);
 
 /// Lets all contestants take turns until each has had its share of time. The first turn goes round with the rounds.

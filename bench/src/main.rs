@@ -21,7 +21,7 @@ mod trees;
 mod whole;
 mod words;
 
-use report::{filled, table, time, Row};
+use report::{count, filled, table, time, Row};
 use stand::Stood;
 use std::path::PathBuf;
 use targets::Targets;
@@ -70,27 +70,35 @@ fn main() {
 
 /// The runs of tidy as rows, with their firings.
 fn tidy_rows(tidies: Vec<(String, Run)>, small: Run) -> Vec<Row> {
-    let rows = tidies.into_iter().map(|(name, run)| Row::new(format!("{name}: {} firings", run.firings), run.best));
-    let grown = format!("a posting and tidy({}), 4,095 times: {} firings in all", measures::BUDGET, small.firings);
+    let rows =
+        tidies.into_iter().map(|(name, run)| Row::new(format!("{name}: {} firings", count(run.firings)), run.best));
+    let firings = count(small.firings);
+    let grown = format!("one posting with tidy({}) after it, 4,095 times: {firings} firings", measures::BUDGET);
     rows.chain([Row::new(grown, small.best)]).collect()
 }
 
 /// What one firing costs at each size.
 fn firings(by_size: &[(usize, Run)]) -> String {
-    let row = |(size, run): &(usize, Run)| Row::new(format!("{size}: {} firings", run.firings), run.firings_of_all());
-    table(&by_size.iter().map(row).collect::<Vec<_>>())
+    let what = |size: usize, run: &Run| format!("{} records: {} firings", count(size as u64), count(run.firings));
+    let rows: Vec<Row> = by_size.iter().map(|(size, run)| Row::new(what(*size, run), run.firings_of_all())).collect();
+    table(&rows)
 }
 
 fn stand_table(stands: &[Stood]) -> String {
     let mut text = "| input | find lines | loop in one process | as a process | process with no input |".to_string();
-    text += " lines a second, in one process | lines a second, process less empty one |\n|---|--:|--:|--:|--:|--:|--:|\n";
+    text +=
+        " lines a second, in one process | lines a second, process less empty one |\n|---|--:|--:|--:|--:|--:|--:|\n";
     let million = |lines: f64| format!("{:.2} million", lines / 1e6);
     for s in stands {
         let inside = s.inside.map_or("not measured here".into(), time);
         let lines = s.lines_inside().map_or("-".into(), million);
         let (process, empty) = (time(s.process), time(s.empty));
         let outside = million(s.lines_as_process());
-        text += &format!("| {} | {} | {inside} | {process} | {empty} | {lines} | {outside} |\n", s.wanted, s.finds);
+        text += &format!(
+            "| {} | {} | {inside} | {process} | {empty} | {lines} | {outside} |\n",
+            s.wanted,
+            count(s.finds as u64)
+        );
     }
     if stands.is_empty() {
         text += "| the program was not built here | | | | | | |\n";

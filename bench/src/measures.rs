@@ -41,8 +41,8 @@ pub fn all_finds() -> Vec<Row> {
     let mut rows = Vec::new();
     for (when, words, list) in [
         ("after tidying", &tight, &random),
-        ("random postings, before tidying", &loose, &random),
-        ("ascending postings, before tidying", &chain, &batches),
+        ("before tidying, random postings", &loose, &random),
+        ("before tidying, ascending postings", &chain, &batches),
     ] {
         for (name, wanted) in [("hits", Wanted::Hits), ("misses", Wanted::Misses)] {
             let what = format!("{name} {when}");

@@ -77,7 +77,8 @@ pub fn plot(panels: &[Panel]) -> String {
     let rows = panels.len().div_ceil(2);
     let (width, height) = (2.0 * WIDE, rows as f64 * HIGH + LEGEND);
     let mut svg = format!(
-        "<svg xmlns='http://www.w3.org/2000/svg' viewBox='0 0 {width} {height}' font-family='sans-serif' font-size='12'>\n\
+        "<svg xmlns='http://www.w3.org/2000/svg' viewBox='0 0 {width} {height}' \
+         font-family='sans-serif' font-size='12'>\n\
          <rect width='{width}' height='{height}' fill='white'/>\n"
     );
     for (i, panel) in panels.iter().enumerate() {

@@ -26,6 +26,14 @@ pub fn ratio(r: f64) -> String {
     }
 }
 
+/// A count with its thousands apart.
+pub fn count(number: u64) -> String {
+    match number {
+        n if n < 1_000 => n.to_string(),
+        n => format!("{},{:03}", count(n / 1_000), n % 1_000),
+    }
+}
+
 /// One workload with what each contestant took for one call.
 pub struct Row {
     pub what: String,
@@ -45,7 +53,11 @@ impl Row {
     /// The fastest of some contestants.
     pub fn fastest(&self, names: &[&'static str]) -> Option<&'static str> {
         let seconds = |name: &&&str| of(&self.best, name).unwrap_or(f64::MAX);
-        names.iter().filter(|name| of(&self.best, name).is_some()).min_by(|a, b| seconds(a).total_cmp(&seconds(b))).copied()
+        names
+            .iter()
+            .filter(|name| of(&self.best, name).is_some())
+            .min_by(|a, b| seconds(a).total_cmp(&seconds(b)))
+            .copied()
     }
 }
 

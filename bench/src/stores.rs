@@ -22,7 +22,7 @@ pub struct Calls {
 
 pub const OURS: &str = "ours";
 pub const PLAIN: &str = "plain Rust";
-pub const BARE: [&str; 3] = ["bare walk", "bare, moves", "bare, jumps"];
+pub const BARE: [&str; 3] = ["bare walk", "bare walk (cmov)", "bare walk (jump)"];
 pub const TREES: [&str; 4] = ["BTreeMap", "std::map", "avl_set", "GTree"];
 
 type WordsFind = unsafe extern "C" fn(*const u32, usize, u32, *mut u64);
@@ -45,14 +45,7 @@ fn on_words(name: &'static str, find: WordsFind, writes: Option<(WordsPost, Word
 
 macro_rules! tree {
     ($name:expr, $open:path, $close:path, $find:path, $post:path, $drop:path) => {
-        Calls {
-            name: $name,
-            open: Some($open),
-            close: Some($close),
-            find: $find,
-            post: Some($post),
-            drop: Some($drop),
-        }
+        Calls { name: $name, open: Some($open), close: Some($close), find: $find, post: Some($post), drop: Some($drop) }
     };
 }
 

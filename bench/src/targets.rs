@@ -2,9 +2,9 @@
 
 use crate::report::{ratio, Row};
 use crate::stand::Stood;
+use crate::stores::OURS;
 use crate::stores::{BARE, PLAIN, TREES};
 use crate::tidying::{Run, RESCAN};
-use crate::stores::OURS;
 
 /// A wish with what was measured; no number where it could not be measured here.
 struct Target {

@@ -61,6 +61,12 @@ fn put_link(header: &mut Header, slots: &mut [Slot], holder: usize, side: usize,
     }
 }
 
+/// The lowest free slot, counted from 0. Inside post the same loop takes twice as long.
+#[inline(never)]
+fn free_slot(slots: &[Slot]) -> Option<usize> {
+    slots.iter().position(|s| s[STATE] == 0)
+}
+
 pub fn post(words: &mut [u32], key: u32, pieces: u32, state: u32) -> Answer {
     let Some((header, slots)) = parts_mut(words) else { return refuse(LENGTH) };
     if key == 0 || pieces.wrapping_sub(1) >= MOST_PIECES || state.wrapping_sub(1) >= 2 {
@@ -73,7 +79,7 @@ pub fn post(words: &mut [u32], key: u32, pieces: u32, state: u32) -> Answer {
     if way.slot != 0 {
         return refuse(PRESENT);
     }
-    let Some(free) = slots.iter().position(|s| s[STATE] == 0) else { return refuse(FULL) };
+    let Some(free) = free_slot(slots) else { return refuse(FULL) };
     if !blank(&slots[free]) || header[RECORDS] as usize == slots.len() {
         return refuse(DAMAGED);
     }

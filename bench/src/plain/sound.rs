@@ -32,10 +32,19 @@ impl Scan<'_> {
         true
     }
 
-    /// Every slot that was not reached is eight zeros.
+    /// Every slot that was not reached is eight zeros: the marks are looked at 64 at a time.
     fn rest_blank(&self) -> bool {
-        let marked = |k: usize| self.marks[k / 64] >> (k % 64) & 1 != 0;
-        self.slots.iter().zip(1..).all(|(s, k)| marked(k) || blank(s))
+        let blank_at = |k: usize| k == 0 || self.slots.get(k - 1).is_none_or(blank);
+        self.marks.iter().enumerate().all(|(word, marks)| {
+            let mut missed = !marks;
+            while missed != 0 {
+                if !blank_at(64 * word + missed.trailing_zeros() as usize) {
+                    return false;
+                }
+                missed &= missed - 1;
+            }
+            true
+        })
     }
 }
 
@@ -44,9 +53,8 @@ pub fn sound(header: &Header, slots: &[Slot]) -> bool {
     if !header_good(header, slots.len()) {
         return false;
     }
-    let count = header[RECORDS] as usize;
-    let mut scan = Scan { slots, marks: [0; 64], missing: count };
-    scan.scan(header[ROOT], -1, i64::MAX) && scan.missing == 0 && (count == slots.len() || scan.rest_blank())
+    let mut scan = Scan { slots, marks: [0; 64], missing: header[RECORDS] as usize };
+    scan.scan(header[ROOT], -1, i64::MAX) && scan.missing == 0 && scan.rest_blank()
 }
 
 pub fn check(words: &[u32]) -> Answer {
