@@ -1,6 +1,7 @@
 //! Measures the proved library beside its peers in one run: `bench FOLDER` prints the results page to standard output,
 //! and writes plot.svg and the inputs of `stand` to the folder. bench/run builds it and tells it where things are.
 
+mod agree;
 mod bare;
 mod batches;
 mod clock;
@@ -32,6 +33,7 @@ const PAGE: &str = include_str!("../RESULTS.in.md");
 
 fn main() {
     let folder = PathBuf::from(std::env::args().nth(1).expect("usage: bench FOLDER"));
+    agree::agree(agree::CASES);
     let finds = measures::all_finds();
     let records = measures::all_records();
     let whole = measures::all_whole();
@@ -53,6 +55,7 @@ fn main() {
         ("date", machine::told("TODAY")),
         ("machine", machine::machine()),
         ("tools", machine::told("TOOLS")),
+        ("forms", machine::told("FORMS")),
         ("absent", machine::absent()),
         ("targets", targets.table()),
         ("finds", table(&finds)),
@@ -61,6 +64,7 @@ fn main() {
         ("tidies", table(&tidy_rows(tidies, small))),
         ("firings", firings(&by_size)),
         ("stand", stand_table(&stands)),
+        ("cases", count(agree::CASES)),
         ("turns", format!("{} to {}", turns.0, turns.1)),
         ("bound", measures::BOUND.to_string()),
         ("budget", measures::BUDGET.to_string()),

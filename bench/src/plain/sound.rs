@@ -34,14 +34,16 @@ impl Scan<'_> {
 
     /// Every slot that was not reached is eight zeros: the marks are looked at 64 at a time.
     fn rest_blank(&self) -> bool {
-        let blank_at = |k: usize| k == 0 || self.slots.get(k - 1).is_none_or(blank);
-        self.marks.iter().enumerate().all(|(word, marks)| {
+        let words = self.slots.len() / 64 + 1;
+        self.marks[..words].iter().enumerate().all(|(word, marks)| {
             let mut missed = !marks;
             while missed != 0 {
-                if !blank_at(64 * word + missed.trailing_zeros() as usize) {
-                    return false;
+                let k = 64 * word + missed.trailing_zeros() as usize;
+                match self.slots.get(k - 1) {
+                    None => return true,
+                    Some(s) if !blank(s) => return false,
+                    Some(_) => missed &= missed - 1,
                 }
-                missed &= missed - 1;
             }
             true
         })
@@ -54,6 +56,8 @@ pub fn sound(header: &Header, slots: &[Slot]) -> bool {
         return false;
     }
     let mut scan = Scan { slots, marks: [0; 64], missing: header[RECORDS] as usize };
+    // No slot has the number 0: its mark counts as set.
+    scan.marks[0] = 1;
     scan.scan(header[ROOT], -1, i64::MAX) && scan.missing == 0 && scan.rest_blank()
 }
 
