@@ -23,7 +23,7 @@ macro_rules! call {
     };
 }
 
-const CALLS: [(&str, Call); 9] = [
+const CALLS: [(&str, Call); 10] = [
     ("check", call!(ours::ftk_check, plain::plain_check)),
     ("find", call!(ours::ftk_find, plain::plain_find, 0)),
     ("post", call!(ours::ftk_post, plain::plain_post, 0, 1, 2)),
@@ -33,6 +33,7 @@ const CALLS: [(&str, Call); 9] = [
     ("worth", call!(ours::ftk_worth, plain::plain_worth)),
     ("tidy", call!(ours::ftk_tidy, plain::plain_tidy, 2)),
     ("rescan", call!(ours::ftk_tidy, plain::plain_rescan, 2)),
+    ("rescan, one look", call!(ours::ftk_tidy, plain::plain_rescan_at_one_look, 2)),
 ];
 
 /// A sound table of a few slots, some of them freed again, with true or stale or extreme registers.

@@ -29,7 +29,7 @@ const LEAST_ROUNDS: u64 = 7;
 const MOST_ROUNDS: u64 = 400;
 
 /// But once a contestant has taken so long, it has had turns enough.
-const SLOW: Duration = Duration::from_millis(400);
+const SLOW: Duration = Duration::from_millis(1_500);
 
 /// Lets all contestants take turns until each has had its share of time. The first turn goes round with the rounds.
 pub fn contest(mut turns: Vec<Turn>, share: Duration) -> Vec<Best> {

@@ -61,7 +61,7 @@ fn main() {
         ("finds", table(&finds)),
         ("records", table(&records)),
         ("whole", table(&whole)),
-        ("tidies", table(&tidy_rows(tidies, small))),
+        ("tidies", table(&tidy_rows(&by_size[4].1, tidies, small))),
         ("firings", firings(&by_size)),
         ("stand", stand_table(&stands)),
         ("cases", count(agree::CASES)),
@@ -73,12 +73,15 @@ fn main() {
 }
 
 /// The runs of tidy as rows, with their firings.
-fn tidy_rows(tidies: Vec<(String, Run)>, small: Run) -> Vec<Row> {
-    let rows =
-        tidies.into_iter().map(|(name, run)| Row::new(format!("{name}: {} firings", count(run.firings)), run.best));
+fn tidy_rows(ascending: &Run, tidies: Vec<(String, Run)>, small: Run) -> Vec<Row> {
+    let mut rows = vec![Row::new(format!("ascending: {} firings", count(ascending.firings)), ascending.best.clone())];
+    for (name, run) in tidies {
+        rows.push(Row::new(format!("{name}: {} firings", count(run.firings)), run.best));
+    }
     let firings = count(small.firings);
     let grown = format!("one posting with tidy({}) after it, 4,095 times: {firings} firings", measures::BUDGET);
-    rows.chain([Row::new(grown, small.best)]).collect()
+    rows.push(Row::new(grown, small.best));
+    rows
 }
 
 /// What one firing costs at each size.

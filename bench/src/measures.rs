@@ -80,11 +80,11 @@ pub fn all_whole() -> Vec<Row> {
     NAMES.into_iter().map(row).collect()
 }
 
-/// Whole runs of tidy on full tables of several shapes.
+/// Whole runs of tidy on full tables of several shapes; the ascending one stands among those by size.
 pub fn all_tidies() -> Vec<(String, Run)> {
     let batches = by_stamp(FULL);
     let mut runs = Vec::new();
-    for order in [Order::Ascending, Order::Descending, Order::Random, Order::Zigzag] {
+    for order in [Order::Descending, Order::Random, Order::Zigzag] {
         say(&format!("tidy, {}", order.name()));
         let words = posted(&in_order(&batches, order, 0));
         runs.push((order.name().to_string(), whole_runs(&words, SHARE)));

@@ -29,7 +29,8 @@ fn colour(name: &str) -> &'static str {
         "std::map" => "#1e8449",
         "avl_set" => "#2471a3",
         "GTree" => "#7d3c98",
-        "rescan" => "#7f8c8d",
+        "rescan" => "#6e2c00",
+        "rescan, one look" => "#b9770e",
         _ => "#95a5a6",
     }
 }

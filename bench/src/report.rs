@@ -18,9 +18,11 @@ pub fn time(seconds: f64) -> String {
     }
 }
 
-/// A ratio, with two digits after the point while it is small.
+/// A ratio, with at least two digits that say something.
 pub fn ratio(r: f64) -> String {
     match r {
+        r if r < 0.00995 => format!("{r:.4}"),
+        r if r < 0.0995 => format!("{r:.3}"),
         r if r < 99.95 => format!("{r:.2}"),
         r => format!("{r:.0}"),
     }

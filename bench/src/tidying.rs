@@ -12,10 +12,16 @@ use std::time::Duration;
 pub type Tidy = unsafe extern "C" fn(*mut u32, usize, u32, *mut u64);
 
 pub const RESCAN: &str = "rescan";
+pub const ONE_LOOK: &str = "rescan, one look";
 
 /// Those that tidy: ours, plain Rust with a set of the slots that are due, and plain Rust that scans anew each time.
-pub fn contestants() -> [(&'static str, Tidy); 3] {
-    [(OURS, ours::ftk_tidy), (PLAIN, plain::plain_tidy), (RESCAN, plain::plain_rescan)]
+pub fn contestants() -> [(&'static str, Tidy); 4] {
+    [
+        (OURS, ours::ftk_tidy),
+        (PLAIN, plain::plain_tidy),
+        (RESCAN, plain::plain_rescan),
+        (ONE_LOOK, plain::plain_rescan_at_one_look),
+    ]
 }
 
 pub fn tidy(call: Tidy, words: &mut [u32], budget: u32) -> Answer {

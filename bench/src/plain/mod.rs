@@ -1,6 +1,7 @@
 //! Plain Rust of the same promises, called in the same way as the proved library.
 
 mod records;
+mod rescan;
 mod rules;
 mod sound;
 mod sums;
@@ -36,4 +37,5 @@ read_call!(plain_worth, sums::worth);
 write_call!(plain_post, records::post, key, pieces, state);
 write_call!(plain_drop, records::drop, key);
 write_call!(plain_tidy, tidy::tidy, budget);
-write_call!(plain_rescan, tidy::rescan, budget);
+write_call!(plain_rescan, rescan::rescan, budget);
+write_call!(plain_rescan_at_one_look, rescan::rescan_at_one_look, budget);

@@ -61,6 +61,26 @@ pub fn due(slots: &[Slot], v: u32) -> u32 {
     }
 }
 
+/// Whether one rule would be accepted at slot v: its guard by itself, and the height limit.
+pub fn passes(slots: &[Slot], v: u32, rule: u32) -> bool {
+    let side = 1 - (rule as usize & 1);
+    let s = slot(slots, v);
+    if s[LEFT + side] == 0 {
+        return false;
+    }
+    let u = slot(slots, s[LEFT + side]);
+    let height = local_height(u);
+    let reliable = s[LEFTH + side] == height;
+    let leans = s[LEFTH + side] >= s[RIGHTH - side] + 2;
+    let (near, far) = (u[LEFTH + side], u[RIGHTH - side]);
+    match rule {
+        1 | 2 => !reliable && height <= MOST_HEIGHT,
+        3 | 4 => reliable && near > far && leans,
+        5 | 6 => reliable && near == far && leans,
+        _ => reliable && near < far && leans && far == local_height(slot(slots, u[RIGHT - side])),
+    }
+}
+
 /// Whether any guard holds at slot v, also one whose firing would be refused for its height.
 pub fn guarded(slots: &[Slot], v: u32) -> bool {
     let s = slot(slots, v);

@@ -1,4 +1,4 @@
-//! tidy in plain Rust, twice: with the slots that are due kept in a bit set, and by a scan from the start each time.
+//! tidy in plain Rust: the slots that are due are kept in a bit set.
 
 use super::rules::{due, fire, guarded};
 use super::sound::sound;
@@ -83,25 +83,8 @@ pub fn tidy(words: &mut [u32], budget: u32) -> Answer {
     tidied(words, budget, run)
 }
 
-/// Fires the first that is due, found anew each time by a scan over slots and rules; the holder by a scan too.
-fn run_rescan(header: &mut Header, slots: &mut [Slot], budget: u32) -> u32 {
-    for fired in 0..budget {
-        let all = 1..=slots.len() as u32;
-        let first = all.clone().find(|&k| slots[k as usize - 1][STATE] != 0 && due(slots, k) != 0);
-        let Some(v) = first else { return fired };
-        let rule = due(slots, v);
-        let holds = |k: &u32| slots[*k as usize - 1][LEFT] == v || slots[*k as usize - 1][RIGHT] == v;
-        let holder = if rule <= 2 { 0 } else { all.clone().find(holds).unwrap_or(0) };
-        fire(header, slots, rule, holder, v);
-    }
-    budget
-}
-
-pub fn rescan(words: &mut [u32], budget: u32) -> Answer {
-    tidied(words, budget, run_rescan)
-}
-
-fn tidied(words: &mut [u32], budget: u32, run: fn(&mut Header, &mut [Slot], u32) -> u32) -> Answer {
+/// How a tidy begins and ends, whatever way it runs in between.
+pub fn tidied(words: &mut [u32], budget: u32, run: fn(&mut Header, &mut [Slot], u32) -> u32) -> Answer {
     let Some((header, slots)) = parts_mut(words) else { return refuse(LENGTH) };
     if !sound(header, slots) {
         return refuse(DAMAGED);
