@@ -23,13 +23,14 @@ macro_rules! call {
     };
 }
 
-const CALLS: [(&str, Call); 10] = [
+const CALLS: [(&str, Call); 11] = [
     ("check", call!(ours::ftk_check, plain::plain_check)),
     ("find", call!(ours::ftk_find, plain::plain_find, 0)),
     ("post", call!(ours::ftk_post, plain::plain_post, 0, 1, 2)),
     ("drop", call!(ours::ftk_drop, plain::plain_drop, 0)),
     ("rank", call!(ours::ftk_rank, plain::plain_rank, 2)),
     ("total", call!(ours::ftk_total, plain::plain_total, 0)),
+    ("total, walking", call!(ours::ftk_total, plain::plain_total_walking, 0)),
     ("worth", call!(ours::ftk_worth, plain::plain_worth)),
     ("tidy", call!(ours::ftk_tidy, plain::plain_tidy, 2)),
     ("rescan", call!(ours::ftk_tidy, plain::plain_rescan, 2)),

@@ -32,14 +32,21 @@ impl Call {
 
 pub const NAMES: [&str; 4] = ["check", "rank", "total", "worth"];
 
-fn pair(name: &str) -> [(&'static str, Call); 2] {
+/// Plain Rust in the form that ours has to have, where its own is another.
+const WALKING: &str = "plain Rust, walking";
+
+fn contestants(name: &str) -> Vec<(&'static str, Call)> {
     let (a, b) = match name {
         "check" => (Call::Alone(ours::ftk_check), Call::Alone(plain::plain_check)),
         "rank" => (Call::With(ours::ftk_rank), Call::With(plain::plain_rank)),
         "total" => (Call::With(ours::ftk_total), Call::With(plain::plain_total)),
         _ => (Call::Alone(ours::ftk_worth), Call::Alone(plain::plain_worth)),
     };
-    [(OURS, a), (PLAIN, b)]
+    let mut all = vec![(OURS, a), (PLAIN, b)];
+    if name == "total" {
+        all.push((WALKING, Call::With(plain::plain_total_walking)));
+    }
+    all
 }
 
 /// The numbers of one round: ranks, or keys of records.
@@ -60,10 +67,10 @@ fn numbers(name: &str, batches: &[Batch], round: u64, count: usize) -> Vec<u32> 
 pub fn whole(name: &'static str, words: &[u32], batches: &[Batch], share: Duration) -> Vec<Best> {
     let count = (16_000 / batches.len()).max(4);
     for number in numbers(name, batches, 0, 50) {
-        let [a, b] = pair(name).map(|(_, call)| call.make(words, number));
-        assert!(a == b && a[0] == 0, "{name} {number}: ours {a:?}, plain Rust {b:?}");
+        let answers: Vec<Answer> = contestants(name).iter().map(|(_, call)| call.make(words, number)).collect();
+        assert!(answers.iter().all(|a| *a == answers[0] && a[0] == 0), "{name} {number}: {answers:?}");
     }
-    let turns = pair(name).into_iter().map(|(who, call)| Turn {
+    let turns = contestants(name).into_iter().map(|(who, call)| Turn {
         name: who,
         go: Box::new(move |round| {
             let numbers = numbers(name, batches, round, count);

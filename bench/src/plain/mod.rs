@@ -33,6 +33,7 @@ read_call!(plain_check, sound::check);
 read_call!(plain_find, records::find, key);
 read_call!(plain_rank, sums::rank, r);
 read_call!(plain_total, sums::total, key);
+read_call!(plain_total_walking, sums::total_walking, key);
 read_call!(plain_worth, sums::worth);
 write_call!(plain_post, records::post, key, pieces, state);
 write_call!(plain_drop, records::drop, key);

@@ -47,11 +47,36 @@ pub fn total(words: &[u32], key: u32) -> Answer {
     accept(header, sum, 0, 0)
 }
 
-/// How many slots hang at link k, and what they weigh, of n slots in all, with a register above them.
-fn weigh(slots: &[Slot], k: u32, n: u64, register: u64) -> (u64, u64) {
+/// The pieces of all records at link k with a key of at most `key`, by a walk of both sides.
+fn sum_under(slots: &[Slot], k: u32, key: u32) -> u64 {
     if k == 0 {
-        return (0, 0);
+        return 0;
     }
+    let s = &slots[k as usize - 1];
+    let own = if s[KEY] <= key { u64::from(s[PIECES]) } else { 0 };
+    own + sum_under(slots, s[LEFT], key) + sum_under(slots, s[RIGHT], key)
+}
+
+/// total in the form that ours has: the tree walked, instead of the slots read in a row.
+pub fn total_walking(words: &[u32], key: u32) -> Answer {
+    let Some((header, slots)) = parts(words) else { return refuse(LENGTH) };
+    if !sound(header, slots) {
+        return refuse(DAMAGED);
+    }
+    accept(header, sum_under(slots, header[ROOT], key), 0, 0)
+}
+
+/// How many slots hang at a link, and what they weigh, of n slots in all, with a register above them.
+#[inline]
+fn weigh(slots: &[Slot], k: u32, n: u64, register: u64) -> (u64, u64) {
+    match k {
+        0 => (0, 0),
+        _ => weigh_slot(slots, k, n, register),
+    }
+}
+
+/// The same where there is a slot.
+fn weigh_slot(slots: &[Slot], k: u32, n: u64, register: u64) -> (u64, u64) {
     let s = &slots[k as usize - 1];
     let (lefth, righth) = (u64::from(s[LEFTH]), u64::from(s[RIGHTH]));
     let (left, left_weight) = weigh(slots, s[LEFT], n, lefth);
