@@ -30,6 +30,12 @@ pub fn machine() -> String {
     )
 }
 
+/// How many processes wanted to run in the last minute.
+pub fn load() -> String {
+    let text = read_to_string("/proc/loadavg").unwrap_or_default();
+    text.split(' ').next().filter(|load| !load.is_empty()).unwrap_or("unknown").to_string()
+}
+
 /// A sentence on the trees that this build does not have.
 pub fn absent() -> String {
     let here = tree_peers();

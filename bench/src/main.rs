@@ -33,6 +33,7 @@ const PAGE: &str = include_str!("../RESULTS.in.md");
 
 fn main() {
     let folder = PathBuf::from(std::env::args().nth(1).expect("usage: bench FOLDER"));
+    let load = machine::load();
     agree::agree(agree::CASES);
     let finds = measures::all_finds();
     let records = measures::all_records();
@@ -55,6 +56,7 @@ fn main() {
         ("date", machine::told("TODAY")),
         ("machine", machine::machine()),
         ("tools", machine::told("TOOLS")),
+        ("load", load),
         ("forms", machine::told("FORMS")),
         ("absent", machine::absent()),
         ("targets", targets.table()),

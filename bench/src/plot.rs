@@ -30,7 +30,7 @@ fn colour(name: &str) -> &'static str {
         "avl_set" => "#2471a3",
         "GTree" => "#7d3c98",
         "rescan" => "#6e2c00",
-        "rescan, one look" => "#b9770e",
+        "rescan, one look" => "#e84393",
         _ => "#95a5a6",
     }
 }
