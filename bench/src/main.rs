@@ -1,0 +1,116 @@
+//! Measures the proved library beside its peers in one run: `bench FOLDER` prints the results page to standard output,
+//! and writes plot.svg and the inputs of `stand` to the folder. bench/run builds it and tells it where things are.
+
+mod agree;
+mod bare;
+mod batches;
+mod clock;
+mod dice;
+mod finds;
+mod machine;
+mod measures;
+mod ours;
+mod plain;
+mod plot;
+mod postings;
+mod report;
+mod stand;
+mod stores;
+mod targets;
+mod tidying;
+mod trees;
+mod whole;
+mod words;
+
+use report::{count, filled, table, time, Row};
+use stand::Stood;
+use std::path::PathBuf;
+use targets::Targets;
+use tidying::Run;
+
+/// The page with places for the numbers.
+const PAGE: &str = include_str!("../RESULTS.in.md");
+
+fn main() {
+    let folder = PathBuf::from(std::env::args().nth(1).expect("usage: bench FOLDER"));
+    let load = machine::load();
+    agree::agree(agree::CASES);
+    let finds = measures::all_finds();
+    let records = measures::all_records();
+    let whole = measures::all_whole();
+    let tidies = measures::all_tidies();
+    let small = measures::small_tidies();
+    let by_size = measures::tidies_by_size();
+    let panels = measures::panels(&by_size);
+    let stands = measures::all_stands(&folder);
+    std::fs::write(folder.join("plot.svg"), plot::plot(&panels)).expect("a folder that can be written");
+
+    let mut targets = Targets::new();
+    finds[..2].iter().for_each(|row| targets.find(row));
+    records.iter().chain(&whole).for_each(|row| targets.same_promise(row));
+    targets.tidy(&by_size[2].1, &by_size[4].1);
+    stands.iter().for_each(|stood| targets.stand(stood));
+
+    let turns = report::turns(&[&finds, &records, &whole]);
+    let texts = [
+        ("date", machine::told("TODAY")),
+        ("machine", machine::machine()),
+        ("tools", machine::told("TOOLS")),
+        ("load", load),
+        ("forms", machine::told("FORMS")),
+        ("absent", machine::absent()),
+        ("targets", targets.table()),
+        ("finds", table(&finds)),
+        ("records", table(&records)),
+        ("whole", table(&whole)),
+        ("tidies", table(&tidy_rows(&by_size[4].1, tidies, small))),
+        ("firings", firings(&by_size)),
+        ("stand", stand_table(&stands)),
+        ("cases", count(agree::CASES)),
+        ("turns", format!("{} to {}", turns.0, turns.1)),
+        ("bound", measures::BOUND.to_string()),
+        ("budget", measures::BUDGET.to_string()),
+    ];
+    print!("{}", filled(PAGE, &texts));
+}
+
+/// The runs of tidy as rows, with their firings.
+fn tidy_rows(ascending: &Run, tidies: Vec<(String, Run)>, small: Run) -> Vec<Row> {
+    let mut rows = vec![Row::new(format!("ascending: {} firings", count(ascending.firings)), ascending.best.clone())];
+    for (name, run) in tidies {
+        rows.push(Row::new(format!("{name}: {} firings", count(run.firings)), run.best));
+    }
+    let firings = count(small.firings);
+    let grown = format!("one posting with tidy({}) after it, 4,095 times: {firings} firings", measures::BUDGET);
+    rows.push(Row::new(grown, small.best));
+    rows
+}
+
+/// What one firing costs at each size.
+fn firings(by_size: &[(usize, Run)]) -> String {
+    let what = |size: usize, run: &Run| format!("{} records: {} firings", count(size as u64), count(run.firings));
+    let rows: Vec<Row> = by_size.iter().map(|(size, run)| Row::new(what(*size, run), run.firings_of_all())).collect();
+    table(&rows)
+}
+
+fn stand_table(stands: &[Stood]) -> String {
+    let mut text = "| input | find lines | loop in one process | as a process | process with no input |".to_string();
+    text +=
+        " lines a second, in one process | lines a second, process less empty one |\n|---|--:|--:|--:|--:|--:|--:|\n";
+    let million = |lines: f64| format!("{:.2} million", lines / 1e6);
+    for s in stands {
+        let inside = s.inside.map_or("not measured here".into(), time);
+        let lines = s.lines_inside().map_or("-".into(), million);
+        let (process, empty) = (time(s.process), time(s.empty));
+        let outside = million(s.lines_as_process());
+        text += &format!(
+            "| {} | {} | {inside} | {process} | {empty} | {lines} | {outside} |\n",
+            s.wanted,
+            count(s.finds as u64)
+        );
+    }
+    if stands.is_empty() {
+        text += "| the program was not built here | | | | | | |\n";
+    }
+    text
+}
