@@ -1,4 +1,4 @@
--- A rule that is due at a slot: its link as noted, its nodes, and the table and the notes after it has fired. Assumes nothing.
+-- A rule that is due at a slot: its link, its nodes, and the table and the notes after its firing. Assumes nothing.
 use Prim.Native.Nat.{ℕ, _≤_}
 use mathlib.Core.Path.{_≡_, refl, _∙_, ap}
 use mathlib.Core.Bool.{true, not, _&&_}

@@ -71,7 +71,8 @@ module _ {t : List ℕ} {c : ℕ} {h : List ℕ} (o : Holds t c h) where
         ]
 
     -- the nodes of a rule there
-    module _ (r : Rule) (nd : Nodes1 (nodesAt t r l (word t (linkAt l)))) (li : Lies c (nodesAt t r l (word t (linkAt l)))) where
+    module _ (r : Rule) (nd : Nodes1 (nodesAt t r l (word t (linkAt l))))
+        (li : Lies c (nodesAt t r l (word t (linkAt l)))) where
       abbrev n : Nodes
       n = nodesAt t r l (word t (linkAt l))
 

@@ -100,7 +100,8 @@ module _ {limited : Bool} {t : List ℕ} {c : ℕ} {m : List ℕ} where
     }
 
 -- every slot is on at first
-pub all-on : {limited : Bool} {t : List ℕ} {c : ℕ} → Sized t c → Rested limited t c (replicate 64 18446744073709551615) 1
+pub all-on : {limited : Bool} {t : List ℕ} {c : ℕ} → Sized t c
+    → Rested limited t c (replicate 64 18446744073709551615) 1
 all-on z = record {
   room = length-replicate {A = ℕ} 64 18446744073709551615;
   first = omega arith;
