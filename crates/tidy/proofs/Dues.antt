@@ -20,12 +20,12 @@ use Rattle.holders.specs.Away.{Elsewhere}
 use Rattle.holders.proofs.DueNodes.{node-slots, nodes-lie, fired-is, whole-again}
 use Rattle.holders.proofs.DueNodes.{link-noted, holds-again, may-move, above-one, above-two}
 use Rattle.holders.proofs.AsBefore.{as-before}
-use Rattle.tidy.specs.Sight.{sightOf}
+use Rattle.sight.specs.Sight.{sightOf}
 use Rattle.tidy.specs.Roused.{Rousing}
 use Rattle.tidy.specs.Running.{Due, DueAt, Acted, Fired, SameTests}
-use Rattle.tidy.specs.declared.test.Sight.{Sight}
-use Rattle.tidy.specs.declared.test.Sight.the-variants.{Missing, Seen}
-use Rattle.tidy.proofs.Sights.{sight-is}
+use Rattle.sight.specs.declared.test.Sight.{Sight}
+use Rattle.sight.specs.declared.test.Sight.the-variants.{Missing, Seen}
+use Rattle.sight.proofs.Sights.{sight-is}
 
 module _ (t : List ℕ) (c v n : ℕ) {r : Rule} (d : passes true t c v n ≡ true) (e : ruleOf n ≡ rule-is.Known r)
     (link : Link) where

@@ -1,7 +1,7 @@
 // The stated order: the lowest slot, then the lowest rule, left by a label at the first that passes.
-use crate::test::passes;
 use scope::Next;
 use scope::Rule;
+use sight::passes;
 ghost use Rattle.words.specs.Ready.{Sized};
 ghost use Rattle.tidy.specs.Found.{Rested, Found};
 

@@ -1,0 +1,2 @@
+-- Laws of what a rule sees.
+pub mod Sights

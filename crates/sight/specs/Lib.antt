@@ -1,0 +1,2 @@
+-- What a rule sees at a slot.
+pub mod Sight
