@@ -19,6 +19,7 @@ pub mod Meets
 -- the search walk, and rest
 pub mod Seeks
 pub mod Quiets
+pub mod Searches
 pub mod Rests
 -- records amended and posted
 pub mod Keyed

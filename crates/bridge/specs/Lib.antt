@@ -6,3 +6,4 @@ pub mod Leads
 pub mod Fired
 pub mod Seek
 pub mod Settled
+pub mod Due

@@ -16,6 +16,7 @@ pub mod Posting
 pub mod Firing
 pub mod Stuck
 -- tidy is its firings
+pub mod Enabled
 pub mod Tidying
 pub mod Tidied
 -- the promises exclude what does nothing

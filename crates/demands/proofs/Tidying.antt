@@ -17,7 +17,8 @@ use Rattle.sound.specs.Whole.{Whole}
 use Rattle.bridge.proofs.Calls.{plan-is}
 use Rattle.bridge.proofs.Linked.{link-to}
 use Rattle.bridge.proofs.Meets.{v-some, due-meets, due-fires}
-use Rattle.bridge.proofs.Rests.{next-due}
+use Rattle.bridge.specs.Due.{Due}
+use Rattle.bridge.proofs.Searches.{next-due}
 use Rattle.ledger.specs.Ledger.{Ledger}
 use Rattle.demands.specs.Fires.{Trial}
 use Rattle.demands.specs.Tidying.{sideNumber, trialAt, tried, Firings, rests, spent, next, Stopped, all-spent, at-rest, Ran, Tidies}
@@ -25,12 +26,11 @@ use Rattle.demands.proofs.Open.{sound-opens}
 use Rattle.demands.proofs.Stuck.{link-known}
 use Rattle.demands.proofs.Firing.{fire-ledger}
 
--- THE RULE THAT IS NEXT is accepted by fire, which does what tidy does
-pub next-fires : {t : List ℕ} {c : ℕ} → Whole t c → (v n : ℕ) → nextOf t c ≡ At v n
+-- A RULE THAT IS DUE is accepted by fire, which does what tidy does
+pub due-tried : {t : List ℕ} {c : ℕ} → Whole t c → (v n : ℕ) → Due t c v n
     → tried t (trialAt t c v n) ≡ record { answer = accepted (word t changeWord) 0 0 0; words = firedAt t c v n }
 unfolding fireOf fired firedAt aimed
-next-fires {t} {c} w v n e =
-    let d = next-due t c v n e in
+due-tried {t} {c} w v n d =
     let l = linkTo t c v in
     let r = d .rule in
     let h = link-to w v (d .first) (d .most) (v-some (due-meets (d .due))) .0 in
@@ -38,6 +38,10 @@ next-fires {t} {c} w v n e =
     = plan-is w n (l .holder) (sideNumber (l .side)) r l (d .is) (link-known c l (h .most) (h .root))
     ∙ rw (w .sound .header) (due-fires w r v (d .first) (d .most) (d .due)) in
     rw (plan, d .is) refl
+
+pub next-fires : {t : List ℕ} {c : ℕ} → Whole t c → (v n : ℕ) → nextOf t c ≡ At v n
+    → tried t (trialAt t c v n) ≡ record { answer = accepted (word t changeWord) 0 0 0; words = firedAt t c v n }
+next-fires {t} {c} w v n e = due-tried w v n (next-due t c v n e)
 
 -- the firings of a run with `left` to make, where `made` were
 record Run (t : List ℕ) (c left made : ℕ) : Type 0 where

@@ -13,6 +13,7 @@ use Rattle.scope.specs.declared.side.Side.{Side}
 use Rattle.scope.specs.declared.side.Side.the-variants.{Left, Right}
 use Rattle.scope.specs.declared.outcome.Next.the-variants.{At, Nothing}
 use Rattle.sound.specs.Whole.{Whole}
+use Rattle.bridge.specs.Due.{Due}
 use Rattle.demands.specs.Fires.{Trial, fires}
 use Rattle.demands.specs.Ledgers.{ledgerOf}
 
@@ -27,6 +28,12 @@ trialAt t c v n = record { rule = n; holder = linkTo t c v .holder; side = sideN
 
 abbrev pub tried : List ℕ → Trial → Done
 tried t x = fireOf t (x .rule) (x .holder) (x .side)
+
+-- a call of fire that names a rule which is due at a slot, and the link where that slot hangs
+pub record DueTrial (t : List ℕ) (c : ℕ) (x : Trial) : Type 0 where
+  pub slot : ℕ
+  pub due : Due t c slot (x .rule)
+  pub is : x ≡ trialAt t c slot (x .rule)
 
 -- the calls xs of fire lead from t to t′: each is of the rule that is next, each is accepted, and they end
 -- where the budget is spent or no rule is due
