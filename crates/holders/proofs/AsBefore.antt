@@ -11,7 +11,7 @@ use Rattle.scope.specs.declared.rule.RuleIs.the-variants.{Known}
 use Rattle.sound.specs.Whole.{Whole}
 use Rattle.holders.specs.Holds.{Holds}
 use Rattle.holders.specs.Away.{Elsewhere}
-use Rattle.holders.proofs.Fired.{Nodes1}
+use Rattle.holders.proofs.Acts.{AreSlots}
 use Rattle.holders.proofs.Untouched.{Lies}
 use Rattle.holders.proofs.Elsewhere.{elsewhere}
 use Rattle.holders.proofs.DueNodes.{linked, node-slots, nodes-lie, fired-is}
@@ -24,7 +24,7 @@ pub as-before : {t h : List ℕ} {c : ℕ} → Whole t c → Holds t c h
 as-before {t} {h} {c} wh o v n i j d {r} e x p q a limited m =
     let l = linkTo t c v in
     let k = linked wh v n i j d e in
-    let s : Nodes1 (nodesAt t r l (word t (linkAt l))) = rw (k .1) (node-slots wh v n i j d e) in
+    let s : AreSlots (nodesAt t r l (word t (linkAt l))) = rw (k .1) (node-slots wh v n i j d e) in
     let b : Lies c (nodesAt t r l (word t (linkAt l))) = rw (k .1) (nodes-lie wh v n i j d e) in
     let f : Elsewhere h (nodesAt t r l (word t (linkAt l))) x = rw (k .1) a in
     rw (fired-is wh v n i j d e) (rw (k .1) at (elsewhere o l (k .0) (rw (k .1) i) r s b wh x p q f limited m))

@@ -1,4 +1,4 @@
--- A rule that is due at a slot: its link as noted, its nodes, and the table and the notes after it has fired. Assumes nothing.
+-- A rule that is due at a slot: its link, its nodes, and the table and the notes after its firing. Assumes nothing.
 use Prim.Native.Nat.{ℕ, _≤_}
 use mathlib.Core.Path.{_≡_, refl, _∙_, ap}
 use mathlib.Core.Bool.{true, not, _&&_}
@@ -24,7 +24,8 @@ use Rattle.bridge.proofs.Meets.{due-meets, v-some}
 use Rattle.holders.specs.Codes.{linkOf, aboveOf}
 use Rattle.holders.specs.Holds.{Holds, Moving, editsOf, noted}
 use Rattle.holders.proofs.Links.{code-link, son-in, held-son, held-most}
-use Rattle.holders.proofs.Fired.{Nodes1, fired-holds, fired-whole}
+use Rattle.holders.proofs.Fired.{fired-holds, fired-whole}
+use Rattle.holders.proofs.Acts.{AreSlots}
 use Rattle.holders.proofs.Untouched.{Lies}
 use Rattle.holders.proofs.Elsewhere.{noted-at}
 use Rattle.holders.proofs.Upward.{Record, above-record}
@@ -60,7 +61,7 @@ module _ {t : List ℕ} {c : ℕ} (wh : Whole t c) (v n : ℕ) (first : 1 ≤ v)
       named c (nodes .w)
       (and-r (not (eqb (nodes .sv .state) 0) && (not (eqb (nodes .u) 0) && leb (nodes .u) c)) _ there)
 
-  pub node-slots : Nodes1 nodes
+  pub node-slots : AreSlots nodes
   node-slots = record { v = first; u = at-u .0; w = at-w .0 }
 
   pub nodes-lie : Lies c nodes
@@ -87,7 +88,7 @@ module _ {t : List ℕ} {c : ℕ} (wh : Whole t c) (v n : ℕ) (first : 1 ≤ v)
     -- EVERY SLOT IS NOTED WHERE IT HANGS AGAIN
     pub holds-again : Holds (firedAt t c v n) c (noted (editsOf (r .kind) (r .side) nodes) h)
     holds-again =
-        let j : Nodes1 (nodesAt t r link (word t (linkAt link))) = rw (linked .1) node-slots in
+        let j : AreSlots (nodesAt t r link (word t (linkAt link))) = rw (linked .1) node-slots in
         rw fired-is (rw (linked .1) at (fired-holds wh link (linked .0) o r j))
 
     -- the two slots above v

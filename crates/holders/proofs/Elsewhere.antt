@@ -10,7 +10,7 @@ use borrow.Author.Tests.{eq-eqb, ne-eqb}
 use Rattle.scope.proofs.Bools.{by-bool}
 use Rattle.scope.specs.Numbers.{other}
 use Rattle.scope.specs.Table.{word, slotAt, son, linkAt, written}
-use Rattle.scope.specs.Rules.{seen, actionAt}
+use Rattle.scope.specs.Rules.{actionAt}
 use Rattle.scope.specs.Fire.{hasThird}
 use Rattle.scope.specs.Tidy.{nodesAt, passes}
 use Rattle.scope.specs.declared.side.Side.{Side}
@@ -18,17 +18,14 @@ use Rattle.scope.specs.declared.side.Link.{Link}
 use Rattle.scope.specs.declared.rule.Rule.{Rule}
 use Rattle.scope.specs.declared.outcome.Nodes.{Nodes}
 use Rattle.sound.specs.Whole.{Whole}
-use Rattle.bridge.specs.Edit.{Edit}
 use Rattle.bridge.proofs.Calls.{LinkIn}
-use Rattle.bridge.proofs.Edited.{Rewritten, rewritten}
-use Rattle.bridge.proofs.Outside.{edited-away}
 use Rattle.holders.specs.Codes.{linkFor, codeOf, aboveOf}
-use Rattle.holders.specs.Holds.{Holds, editsOf}
+use Rattle.holders.specs.Holds.{Holds}
 use Rattle.holders.specs.Away.{NoNode, Elsewhere}
 use Rattle.holders.proofs.Links.{side-most, code-in, son-in, held-link, held-son, held-most}
-use Rattle.holders.proofs.Fired.{Nodes1, action-edits}
+use Rattle.holders.proofs.Acts.{AreSlots}
 use Rattle.holders.proofs.Steady.{Agree, same-passes}
-use Rattle.holders.proofs.Untouched.{Lies, calm, calm-there, away-there, inside-there}
+use Rattle.holders.proofs.Untouched.{Lies, stays, registers-stay}
 
 -- a link's number tells its holder
 half : (k : ℕ) (s : Side) → codeOf (linkFor k s) / 2 ≡ k
@@ -71,7 +68,8 @@ module _ {t : List ℕ} {c : ℕ} {h : List ℕ} (o : Holds t c h) where
         ]
 
     -- the nodes of a rule there
-    module _ (r : Rule) (nd : Nodes1 (nodesAt t r l (word t (linkAt l)))) (li : Lies c (nodesAt t r l (word t (linkAt l)))) where
+    module _ (r : Rule) (nd : AreSlots (nodesAt t r l (word t (linkAt l))))
+        (li : Lies c (nodesAt t r l (word t (linkAt l)))) where
       abbrev n : Nodes
       n = nodesAt t r l (word t (linkAt l))
 
@@ -99,14 +97,8 @@ module _ {t : List ℕ} {c : ℕ} {h : List ℕ} (o : Holds t c h) where
           }
 
       module _ (wh : Whole t c) (x : ℕ) (j : 1 ≤ x) (k : x ≤ c) (a : Elsewhere h n x) where
-        abbrev edits : List Edit
-        edits = editsOf (r .kind) (r .side) n
-
-        after : Rewritten t (written t (actionAt r n)) c edits
-        after = rw (action-edits r n nd) (rewritten (wh .sized) edits (inside-there c (r .side) n li (r .kind)))
-
-        stays : (y : ℕ) → 1 ≤ y → NoNode n y → (y ≡ l .holder → ⊥) → slotAt (written t (actionAt r n)) y ≡ slotAt t y
-        stays y q b g = after .slots y q ∙ edited-away y edits _ (away-there (r .side) n y b g (r .kind))
+        here : (y : ℕ) → 1 ≤ y → NoNode n y → (y ≡ l .holder → ⊥) → slotAt (written t (actionAt r n)) y ≡ slotAt t y
+        here y q b g = stays (wh .sized) r n nd li y q b g
 
         -- the sons of x
         son-node : (s : Side) → 1 ≤ son (slotAt t x) s → NoNode n (son (slotAt t x) s)
@@ -122,14 +114,13 @@ module _ {t : List ℕ} {c : ℕ} {h : List ℕ} (o : Holds t c h) where
 
         agree : Agree t (written t (actionAt r n)) x
         agree = record {
-          slot = stays x j (a .node) (not-holder x j (a .above));
-          sons = λ s q. stays _ q (son-node s q) (son-holder s q);
+          slot = here x j (a .node) (not-holder x j (a .above));
+          sons = λ s q. here _ q (son-node s q) (son-holder s q);
           grandsons = λ s s′ o q q′.
               let y = son (slotAt t x) s in
               let up = not-above y (son-node s q .v) (son-holder s q) in
               let b = no-son y s′ q (son-most s) (son-node s q) up q′ in
-              ap (seen o) (after .slots (son (slotAt t y) s′) q′)
-              ∙ calm o (son (slotAt t y) s′) edits _ (calm-there (r .side) n (son (slotAt t y) s′) b (r .kind));
+              registers-stay (wh .sized) r n nd li (son (slotAt t y) s′) q′ b o;
         }
 
         pub elsewhere : (limited : Bool) (m : ℕ)

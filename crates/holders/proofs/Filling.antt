@@ -27,7 +27,8 @@ module _ {t : List ℕ} {c : ℕ} (w : Whole t c) where
     room = len;
     is = λ q j l o. elim (ℕ-discrete q n) [
       | yes e ↦ rw e (getD-set-same h (heldAt t n) n 0 (omega (arith, f .room, held-most w n i, w .sized .most)))
-      | no ne ↦ getD-set-other h (heldAt t n) (heldAt t q) n 0 (λ e. ne (one-code w q n j i e o)) ∙ f .is q j (omega arith) o
+      | no ne ↦ getD-set-other h (heldAt t n) (heldAt t q) n 0 (λ e. ne (one-code w q n j i e o))
+          ∙ f .is q j (omega arith) o
     ];
   }
 
@@ -99,7 +100,8 @@ module _ {t : List ℕ} {c : ℕ} where
       whole = f .whole;
       first = omega arith;
       most = omega arith;
-      filled = rw (n .is) (pair (f .whole) k (f .first) i (f .filled) (length-set h _ _ ∙ f .filled .room) (rw (← n .is) (n .room)));
+      filled = rw (n .is)
+          (pair (f .whole) k (f .first) i (f .filled) (length-set h _ _ ∙ f .filled .room) (rw (← n .is) (n .room)));
     }
 
     pub filling-end : c < k → Holds t c h

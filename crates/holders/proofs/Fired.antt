@@ -4,8 +4,6 @@ use mathlib.Core.Path.{_≡_, refl}
 use mathlib.Core.Bool.{true}
 use mathlib.Core.Option.{Option, none, some}
 use mathlib.Core.List.{List, []}
-use native.Mathlib.Omega.{arith}
-use borrow.Author.Tests.{ne-eqb}
 use Rattle.scope.specs.Table.{word, linkAt, written}
 use Rattle.scope.specs.Tree.{Tree}
 use Rattle.scope.specs.Rules.{actionAt}
@@ -28,37 +26,16 @@ use Rattle.bridge.proofs.Held.{way-to}
 use Rattle.bridge.proofs.Linked.{link-to}
 use Rattle.bridge.proofs.Meets.{due-meets, v-some, due-fires}
 use Rattle.holders.specs.Holds.{Holds, editsOf, noted}
+use Rattle.holders.proofs.Acts.{AreSlots, action-edits}
 use Rattle.holders.proofs.Swaps.{after, told}
 use Rattle.holders.proofs.Places.{heldPart, heldBy, notePart, noteBy}
 use Rattle.holders.proofs.Turned.{by-moves, v-most, turned-holds, twice-holds}
-
--- every node is a slot
-pub record Nodes1 (n : Nodes) : Type 0 where
-  pub v : 1 ≤ n .v
-  pub u : 1 ≤ n .u
-  pub w : 1 ≤ n .w
-
--- the words of an action are those of its edits
-edits-by : (k : Kind) (s : Side) (n : Nodes) → Nodes1 n → actionAt (ruleOn k s) n ≡ writes (editsOf k s n)
-unfolding actionAt editsOf writes linkAt
-edits-by Propagate s n i = simp (ne-eqb (n .v) 0 (λ e. omega (arith, i .v)))
-edits-by Lean s n i = simp (ne-eqb (n .v) 0 (λ e. omega (arith, i .v)), ne-eqb (n .u) 0 (λ e. omega (arith, i .u)))
-edits-by Even s n i = simp (ne-eqb (n .v) 0 (λ e. omega (arith, i .v)), ne-eqb (n .u) 0 (λ e. omega (arith, i .u)))
-edits-by Double s n i =
-    simp (
-      ne-eqb (n .v) 0 (λ e. omega (arith, i .v)),
-      ne-eqb (n .u) 0 (λ e. omega (arith, i .u)),
-      ne-eqb (n .w) 0 (λ e. omega (arith, i .w)),
-    )
-
-pub action-edits : (r : Rule) (n : Nodes) → Nodes1 n → actionAt r n ≡ writes (editsOf (r .kind) (r .side) n)
-action-edits r n i = edits-by (r .kind) (r .side) n i
 
 module _ {t : List ℕ} {c : ℕ} (wh : Whole t c) (l : Link) (i : LinkIn c l) {h : List ℕ} (o : Holds t c h) where
   abbrev at : Rule → Nodes
   at r = nodesAt t r l (word t (linkAt l))
 
-  edited-holds : (k : Kind) (s : Side) → Nodes1 (at (ruleOn k s))
+  edited-holds : (k : Kind) (s : Side) → AreSlots (at (ruleOn k s))
       → Holds (written t (writes (editsOf k s (at (ruleOn k s))))) c (noted (editsOf k s (at (ruleOn k s))) h)
   unfolding editsOf heldBy heldPart noteBy notePart after told
   edited-holds Propagate s j =
@@ -68,7 +45,7 @@ module _ {t : List ℕ} {c : ℕ} (wh : Whole t c) (l : Link) (i : LinkIn c l) {
   edited-holds Even s j = turned-holds wh l i s (j .v) (j .u) o (at (ruleOn Even s) .w) (at (ruleOn Even s) .sw)
   edited-holds Double s j = twice-holds wh l i s (j .v) (j .u) o (j .w)
 
-  pub fired-holds : (r : Rule) → Nodes1 (at r)
+  pub fired-holds : (r : Rule) → AreSlots (at r)
       → Holds (written t (actionAt r (at r))) c (noted (editsOf (r .kind) (r .side) (at r)) h)
   fired-holds r j = rw (action-edits r (at r) j) (edited-holds (r .kind) (r .side) j)
 

@@ -13,12 +13,14 @@ use Rattle.scope.specs.declared.rule.Kind.the-variants.{Propagate}
 use Rattle.scope.specs.declared.outcome.Nodes.{Nodes}
 use Rattle.bridge.specs.Edit.{rotates, rotatesTwice}
 use Rattle.holders.specs.Codes.{linkFor, codeOf}
-use Rattle.holders.specs.Holds.{Entries, Noting, Sons, Moving, noted, notedPart, topNoted, lowNoted, sonsNoted, editsOf}
+use Rattle.holders.specs.Holds.{Entries, Noting, Sons, Moving}
+use Rattle.holders.specs.Holds.{noted, notedPart, topNoted, lowNoted, sonsNoted, editsOf}
 
 pub entered : {h : List ℕ} {k holder x y : ℕ} → Noting h k holder → x ≡ y → Entries (set h k y) (set h k x)
 entered {h} {k} {holder} {x} n e = record { is = rw e; room = length-set h k x ∙ n .room }
 
-pub sons-noted : {t h h1 h2 : List ℕ} {k a b : ℕ} {s : Slot} → Sons t h k → s ≡ slotAt t k → a ≡ son s Left → b ≡ son s Right
+pub sons-noted : {t h h1 h2 : List ℕ} {k a b : ℕ} {s : Slot} → Sons t h k → s ≡ slotAt t k
+    → a ≡ son s Left → b ≡ son s Right
     → Entries (set h a (codeOf (linkFor k Left))) h1 → Entries (set h1 b (codeOf (linkFor k Right))) h2
     → Entries (sonsNoted t k h) h2
 unfolding sonsNoted

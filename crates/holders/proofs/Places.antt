@@ -38,10 +38,12 @@ one-place l m i j e =
     elim (ℕ-discrete (l .holder) 0) [
       | yes p ↦ elim (ℕ-discrete (m .holder) 0) [
         | yes q ↦ ap codeOf (i .root p ∙ sym (j .root q))
-        | no q ↦ absurd (omega (arith, place (m .holder) (m .side) (omega arith), ap linkAt (i .root p), root-place Left))
+        | no q ↦
+            absurd (omega (arith, place (m .holder) (m .side) (omega arith), ap linkAt (i .root p), root-place Left))
       ]
       | no p ↦ elim (ℕ-discrete (m .holder) 0) [
-        | yes q ↦ absurd (omega (arith, place (l .holder) (l .side) (omega arith), ap linkAt (j .root q), root-place Left))
+        | yes q ↦
+            absurd (omega (arith, place (l .holder) (l .side) (omega arith), ap linkAt (j .root q), root-place Left))
         | no q ↦ omega (
           arith,
           place (l .holder) (l .side) (omega arith),

@@ -24,7 +24,8 @@ pub record Agree (t t′ : List ℕ) (x : ℕ) : Type 0 where
   pub slot : slotAt t′ x ≡ slotAt t x
   pub sons : (s : Side) → 1 ≤ son (slotAt t x) s → slotAt t′ (son (slotAt t x) s) ≡ slotAt t (son (slotAt t x) s)
   pub grandsons : (s s′ o : Side) → 1 ≤ son (slotAt t x) s → 1 ≤ son (slotAt t (son (slotAt t x) s)) s′
-      → seen o (slotAt t′ (son (slotAt t (son (slotAt t x) s)) s′)) ≡ seen o (slotAt t (son (slotAt t (son (slotAt t x) s)) s′))
+      → seen o (slotAt t′ (son (slotAt t (son (slotAt t x) s)) s′))
+      ≡ seen o (slotAt t (son (slotAt t (son (slotAt t x) s)) s′))
 
 -- the test of a rule, from the numbers that it reads
 abbrev there : ℕ → ℕ → ℕ → ℕ → Bool
@@ -38,7 +39,8 @@ tested false k c state u w pv pu pw = there c state u w && guard k pv pu pw
 is-tested : (limited : Bool) (t : List ℕ) (c : ℕ) (r : Rule) (x : ℕ)
     → (let n = nodesAt t r rootLink x in
     byRule limited t c x (rule-is.Known r)
-    ≡ tested limited (r .kind) c (n .sv .state) (n .u) (n .w) (seen (r .side) (n .sv)) (seen (r .side) (n .su)) (seen (r .side) (n .sw)))
+    ≡ tested limited (r .kind) c (n .sv .state) (n .u) (n .w)
+    (seen (r .side) (n .sv)) (seen (r .side) (n .su)) (seen (r .side) (n .sw)))
 unfolding tested dueAt holdsAt guardAt highestAt
 is-tested true t c r x = refl
 is-tested false t c r x = refl
@@ -76,9 +78,11 @@ module _ {t t′ : List ℕ} {x : ℕ} (a : Agree t t′ x) (c : ℕ) (limited :
       (λ e. rw e (ap (seen s) (a .sons s i)))
 
   abbrev reads : List ℕ → ℕ → ℕ → Bool
-  reads T v w = tested limited k c (slotAt T x .state) v w (seen s (slotAt T x)) (seen s (slotAt T v)) (seen s (slotAt T w))
+  reads T v w =
+      tested limited k c (slotAt T x .state) v w (seen s (slotAt T x)) (seen s (slotAt T v)) (seen s (slotAt T w))
 
-  same-reads : reads t′ (son (slotAt t′ x) s) (cond (hasThird k) (son (slotAt t′ (son (slotAt t′ x) s)) (other s)) (son (slotAt t′ x) s))
+  same-reads : reads t′ (son (slotAt t′ x) s)
+      (cond (hasThird k) (son (slotAt t′ (son (slotAt t′ x) s)) (other s)) (son (slotAt t′ x) s))
       ≡ reads t u third
   same-reads =
       rw (a .slot)

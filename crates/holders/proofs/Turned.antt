@@ -19,7 +19,8 @@ use Rattle.holders.specs.Codes.{linkFor, codeOf, heldAt}
 use Rattle.holders.specs.Holds.{CodeIn, Holds, noted}
 use Rattle.holders.proofs.Links.{side-most, code-in, son-in, held-link, held-son, held-most}
 use Rattle.holders.proofs.Swaps.{Move, takes, NotAt, NotFrom, Once, after, told, told-after}
-use Rattle.holders.proofs.Places.{AllProper, heldPart, heldBy, held-edits, notePart, noteBy, EachNoted, note-edits}
+use Rattle.holders.proofs.Places.{AllProper, heldPart, heldBy, held-edits}
+use Rattle.holders.proofs.Places.{notePart, noteBy, EachNoted, note-edits}
 use Rattle.holders.proofs.Apart.{Two, Three, two, three}
 
 -- edits that come to such moves
@@ -135,6 +136,13 @@ module _ {t : List ℕ} {c : ℕ} (wh : Whole t c) (l : Link) (i : LinkIn c l) (
         in-w : (side : Side) → LinkIn c (linkFor m side)
         in-w side = record { most = w-most; root = λ e. absurd (omega arith) }
 
+        -- what hangs at them
+        wn-son : heldAt t wn ≡ son (slotAt t m) s
+        wn-son = held-son t m s wi
+
+        wf-son : heldAt t wf ≡ son (slotAt t m) (other s)
+        wf-son = held-son t m (other s) wi
+
         w-in : (side : Side) → CodeIn c (codeOf (linkFor m side))
         w-in side = son-in m side wi w-most
 
@@ -184,9 +192,23 @@ module _ {t : List ℕ} {c : ℕ} (wh : Whole t c) (l : Link) (i : LinkIn c l) (
             (noted (rotatesTwice s (pairAt m (slotAt t m))) h)
         unfolding heldBy heldPart noteBy notePart after told
         twice-holds =
-            by-moves (wh .sized) o (rotatesTwice s (pairAt m (slotAt t m))) moves
-            (i, (in-w s, (in-w (other s), (in-u, (in-v, ((ui, u-most), ((vi, v-most), ((wi, w-most), ((wi, w-most), tt)))))))))
+            by-moves (wh .sized) o (rotatesTwice s (pairAt m (slotAt t m))) moves (
+              i,
+              (
+                in-w s,
+                (
+                  in-w (other s),
+                  (
+                    in-u,
+                    (
+                      in-v,
+                      ((ui, u-most), ((vi, v-most), ((wi, w-most), ((wi, w-most), tt)))),
+                    ),
+                  ),
+                ),
+              ),
+            )
             noted-all once
             (λ q n. (n .1 .1 .0, (n .1 .1 .1 .0, (n .1 .1 .1 .1 .0, (n .0, (n .1 .0, tt))))))
-            (λ q. rw (held-son t m (other s) wi, held-son t m s wi, held-link t l, held-son t v s vi, held-son t u (other s) ui) refl)
-            (λ k. rw (held-son t m (other s) wi, held-son t m s wi, held-link t l, held-son t v s vi, held-son t u (other s) ui) refl)
+            (λ q. rw (wf-son, wn-son, held-link t l, held-son t v s vi, held-son t u (other s) ui) refl)
+            (λ k. rw (wf-son, wn-son, held-link t l, held-son t v s vi, held-son t u (other s) ui) refl)

@@ -1,22 +1,26 @@
 -- What the edits of a rule leave of a slot: all of it, or its registers. Assumes nothing.
 use Prim.Native.Nat.{ℕ, _≤_}
-use mathlib.Core.Path.{_≡_, refl, _∙_}
+use mathlib.Core.Path.{_≡_, refl, _∙_, ap}
 use mathlib.Core.Bool.{Bool, true, false, cond}
 use mathlib.Core.List.{List, [], _∷_}
 use lib.Dec.{eqb}
 use borrow.Author.Tests.{ne-eqb}
-use Rattle.scope.specs.Rules.{seen}
+use Rattle.scope.specs.Table.{slotAt, written}
+use Rattle.scope.specs.Rules.{seen, actionAt}
 use Rattle.scope.specs.declared.slot.Slot.{Slot}
 use Rattle.scope.specs.declared.side.Side.{Side}
 use Rattle.scope.specs.declared.side.Side.the-variants.{Left, Right}
 use Rattle.scope.specs.declared.rule.Kind.{Kind}
 use Rattle.scope.specs.declared.rule.Kind.the-variants.{Propagate, Lean, Even, Double}
+use Rattle.scope.specs.declared.rule.Rule.{Rule}
 use Rattle.scope.specs.declared.outcome.Nodes.{Nodes}
+use Rattle.words.specs.Ready.{Sized}
 use Rattle.bridge.specs.Edit.{Part, sonOn, registerOn, Edit, shape, withPart, edited}
-use Rattle.bridge.proofs.Edited.{Inside}
-use Rattle.bridge.proofs.Outside.{Away}
+use Rattle.bridge.proofs.Edited.{Inside, Rewritten, rewritten}
+use Rattle.bridge.proofs.Outside.{Away, edited-away}
 use Rattle.holders.specs.Holds.{editsOf}
 use Rattle.holders.specs.Away.{NoNode}
+use Rattle.holders.proofs.Acts.{AreSlots, action-edits}
 
 -- no register of slot k is written
 abbrev CalmPart : Part → ℕ → ℕ → Type 0
@@ -78,3 +82,22 @@ inside-there c s n a Propagate = (a .v, tt)
 inside-there c s n a Lean = (a .holder, (a .u, (a .v, (a .v, (a .u, tt)))))
 inside-there c s n a Even = (a .holder, (a .u, (a .v, (a .v, (a .u, tt)))))
 inside-there c s n a Double = (a .holder, (a .w, (a .w, (a .u, (a .v, (a .u, (a .v, (a .w, (a .w, tt)))))))))
+
+module _ {t : List ℕ} {c : ℕ} (z : Sized t c) (r : Rule) (n : Nodes) (a : AreSlots n) (l : Lies c n) where
+  abbrev fired : List ℕ
+  fired = written t (actionAt r n)
+
+  abbrev edits : List Edit
+  edits = editsOf (r .kind) (r .side) n
+
+  after : Rewritten t fired c edits
+  after = rw (action-edits r n a) (rewritten z edits (inside-there c (r .side) n l (r .kind)))
+
+  module _ (y : ℕ) (i : 1 ≤ y) (b : NoNode n y) where
+    -- A FIRING CHANGES NO SLOT but its nodes and the holder of its link
+    pub stays : (y ≡ n .link .holder → ⊥) → slotAt fired y ≡ slotAt t y
+    stays g = after .slots y i ∙ edited-away y edits _ (away-there (r .side) n y b g (r .kind))
+
+    -- and of the holder no register
+    pub registers-stay : (o : Side) → seen o (slotAt fired y) ≡ seen o (slotAt t y)
+    registers-stay o = ap (seen o) (after .slots y i) ∙ calm o y edits _ (calm-there (r .side) n y b (r .kind))

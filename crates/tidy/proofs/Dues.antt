@@ -17,16 +17,18 @@ use Rattle.scope.specs.declared.outcome.Nodes.{Nodes}
 use Rattle.rules.specs.Aimed.{Within}
 use Rattle.holders.specs.Codes.{linkOf}
 use Rattle.holders.specs.Away.{Elsewhere}
-use Rattle.holders.proofs.DueNodes.{node-slots, nodes-lie, fired-is, whole-again, link-noted, holds-again, may-move, above-one, above-two}
+use Rattle.holders.proofs.DueNodes.{node-slots, nodes-lie, fired-is, whole-again}
+use Rattle.holders.proofs.DueNodes.{link-noted, holds-again, may-move, above-one, above-two}
 use Rattle.holders.proofs.AsBefore.{as-before}
-use Rattle.tidy.specs.Sight.{sightOf}
+use Rattle.sight.specs.Sight.{sightOf}
 use Rattle.tidy.specs.Roused.{Rousing}
 use Rattle.tidy.specs.Running.{Due, DueAt, Acted, Fired, SameTests}
-use Rattle.tidy.specs.declared.test.Sight.{Sight}
-use Rattle.tidy.specs.declared.test.Sight.the-variants.{Missing, Seen}
-use Rattle.tidy.proofs.Sights.{sight-is}
+use Rattle.sight.specs.declared.test.Sight.{Sight}
+use Rattle.sight.specs.declared.test.Sight.the-variants.{Missing, Seen}
+use Rattle.sight.proofs.Sights.{sight-is}
 
-module _ (t : List ℕ) (c v n : ℕ) {r : Rule} (d : passes true t c v n ≡ true) (e : ruleOf n ≡ rule-is.Known r) (link : Link) where
+module _ (t : List ℕ) (c v n : ℕ) {r : Rule} (d : passes true t c v n ≡ true) (e : ruleOf n ≡ rule-is.Known r)
+    (link : Link) where
   due-at : dueAt t c r v ≡ true
   unfolding passes
   due-at = rw e at d
@@ -44,7 +46,8 @@ module _ (t : List ℕ) (c v n : ℕ) {r : Rule} (d : passes true t c v n ≡ tr
   due-seen = sight-is t c r link v ∙ simp there
 
 -- a number of no rule is never due
-pub due-unknown {ℓ} : {X : Type ℓ} (t : List ℕ) (c v n : ℕ) → passes true t c v n ≡ true → ruleOf n ≡ rule-is.Unknown → X
+pub due-unknown {ℓ} : {X : Type ℓ} (t : List ℕ) (c v n : ℕ) → passes true t c v n ≡ true
+    → ruleOf n ≡ rule-is.Unknown → X
 unfolding passes
 due-unknown t c v n d e = let q = rw e at d in let y : _≡_ {A = ℕ} 0 1 = cc in absurd (omega arith)
 

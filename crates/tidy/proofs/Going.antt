@@ -1,4 +1,4 @@
--- The loop of tidy under way: what is left to fire gives what the whole gives, and one law for each way on or out. Assumes nothing.
+-- The loop of tidy under way: what is left to fire gives what the whole gives, and one law for each way. Assumes nothing.
 use Prim.Native.Nat.{ℕ, zero, suc, _+_, _-_, _≤_}
 use mathlib.Core.Path.{_≡_, refl, sym, _∙_, ap}
 use mathlib.Core.Bool.{true, false}
@@ -30,7 +30,8 @@ module _ (c : ℕ) (t : List ℕ) where
   none-left zero k e = refl
   none-left (suc n) k e = simp e
 
-  one-fired : (n m k v r : ℕ) → n ≡ suc m → nextOf t c ≡ At v r → tidyFrom n c t k ≡ tidyFrom m c (firedAt t c v r) (k + 1)
+  one-fired : (n m k v r : ℕ) → n ≡ suc m → nextOf t c ≡ At v r
+      → tidyFrom n c t k ≡ tidyFrom m c (firedAt t c v r) (k + 1)
   unfolding tidyFrom
   one-fired n m k v r z e = rw z (simp e)
 
@@ -44,7 +45,8 @@ same-length : {t u : List ℕ} {c : ℕ} → Sized t c → Sized u c → length 
 same-length s z = omega (arith, s .room, z .room)
 
 -- after a firing no rule is due at a slot that is off, nor below the lowest that was put on
-still-rested : {t : List ℕ} {c : ℕ} {m : List ℕ} {v : ℕ} → Rested true t c m v → {n from : ℕ} {t′ h′ m′ : List ℕ} → v ≤ c
+still-rested : {t : List ℕ} {c : ℕ} {m : List ℕ} {v : ℕ} → Rested true t c m v → {n from : ℕ} {t′ h′ m′ : List ℕ}
+    → v ≤ c
     → Fired t m c v n from t′ h′ m′
     → Rested true t′ c m′ from
 still-rested r l f = record {
@@ -95,7 +97,8 @@ module _ {t₀ : List ℕ} {c budget : ℕ} {t h m : List ℕ} {from made : ℕ}
         → Going t₀ c budget t′ h′ m′ from′ (made + 1)
     going-on ne k = record {
       left = ap (λ (y : List ℕ). tidyFrom (budget - (made + 1)) c y (made + 1)) (k .is)
-          ∙ sym (one-fired c t (budget - made) (budget - (made + 1)) made v n (omega (arith, ne, g .within)) (next-is f e))
+          ∙ sym (one-fired c t (budget - made) (budget - (made + 1)) made v n (omega (arith, ne, g .within))
+          (next-is f e))
           ∙ g .left;
       within = omega (arith, ne, g .within);
       running = record { whole = k .whole; holds = k .holds; rested = still-rested (here .rested) (here .most) k };
@@ -107,6 +110,7 @@ pub rest-quiet : (t : List ℕ) (c : ℕ) {m : List ℕ} {x : Next} → Found fa
 unfolding quiet
 rest-quiet t c f e = let q = sym (f .is) ∙ e in simp q
 
-pub rest-due : (t : List ℕ) (c : ℕ) {m : List ℕ} {x : Next} {v n : ℕ} → Found false t c m x → x ≡ At v n → quiet t c ≡ false
+pub rest-due : (t : List ℕ) (c : ℕ) {m : List ℕ} {x : Next} {v n : ℕ} → Found false t c m x → x ≡ At v n
+    → quiet t c ≡ false
 unfolding quiet
 rest-due t c f e = let q = sym (f .is) ∙ e in simp q

@@ -1,5 +1,4 @@
 -- Laws of tidying.
-pub mod Sights
 pub mod Order
 pub mod Scanning
 pub mod Rousing

@@ -43,7 +43,8 @@ more-on o i w = record {
   below = λ k h. (o .below k (omega (arith, w .under)), λ e. omega (arith, w .most));
 }
 
-as-on : {P Q : ℕ → Type 0} {m : List ℕ} {v low : ℕ} {m′ : List ℕ} → On P m v low m′ → ((k : ℕ) → P k → Q k) → On Q m v low m′
+as-on : {P Q : ℕ → Type 0} {m : List ℕ} {v low : ℕ} {m′ : List ℕ} → On P m v low m′ → ((k : ℕ) → P k → Q k)
+    → On Q m v low m′
 as-on o f = record {
   room = o .room;
   first = o .first;
@@ -64,7 +65,12 @@ pub holders-on : {h m : List ℕ} {x : Nodes} → Rousing h m x → {low lower l
     → NodesRoused m x low m₁ → Woken m₁ low a lower m₂ → Woken m₂ lower b least m₃ → Roused h m x least m₃
 holders-on {h} {m} {x} q e f o a b =
     as-on (more-on (more-on o (rw e (q .above-first)) a) (rw (f, e) (q .upper-first)) b)
-    (λ k p. record { node = p .0 .0; above = λ z. p .0 .1 (z ∙ sym e); upper = λ z. p .1 (z ∙ ap (aboveOf h) (sym e) ∙ sym f) })
+    (λ k p. record {
+      node = p .0 .0;
+      above = λ z. p .0 .1 (z ∙ sym e);
+      upper = λ z. p .1 (z ∙ ap (aboveOf h) (sym e) ∙ sym f);
+    })
 
-pub upper-bit : {h m : List ℕ} {x : Nodes} → Rousing h m x → {a b : ℕ} → a ≡ aboveOf h (x .v) → b ≡ aboveOf h a → b < 4096
+pub upper-bit : {h m : List ℕ} {x : Nodes} → Rousing h m x → {a b : ℕ} → a ≡ aboveOf h (x .v) → b ≡ aboveOf h a
+    → b < 4096
 upper-bit q e f = let g = rw (← e) at (q .upper-most) in omega (arith, g, f)

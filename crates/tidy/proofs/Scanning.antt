@@ -3,7 +3,7 @@ use Prim.Native.Nat.{ℕ, _+_, _≤_, _<_}
 use mathlib.Core.Path.{_≡_, sym, _∙_}
 use mathlib.Core.Bool.{Bool, true, false}
 use mathlib.Core.List.{List}
-use lib.ListN.{replicate, length-replicate}
+use lib.ListN.{length, replicate, length-replicate}
 use native.Mathlib.Omega.{arith}
 use native.Mathlib.Decide.{ℕ-discrete, decLt}
 use borrow.Author.Tests.{ne-eqb}
@@ -13,13 +13,14 @@ use Rattle.words.specs.Ready.{Sized}
 use Rattle.marks.specs.Marks.{bitAt}
 use Rattle.agenda.specs.Agenda.{Cleared, Lowest}
 use Rattle.agenda.proofs.Flips.{all-marks}
+use Rattle.sight.specs.Stirring.{stirsAt}
+use Rattle.sight.proofs.Calm.{none-passes}
 use Rattle.tidy.specs.Found.{Idle, Rested, Found}
 use Rattle.tidy.proofs.Order.{slots-none, slots-at}
 
--- at slot v, which is on, and at rule n
+-- at slot v and at rule n
 pub record Trying (limited : Bool) (t : List ℕ) (c : ℕ) (m : List ℕ) (v n : ℕ) : Type 0 where
   pub rested : Rested limited t c m v
-  pub on : bitAt m v ≡ 1
   pub most : v ≤ c
   pub lowest : 1 ≤ n
   pub highest : n ≤ 9
@@ -41,27 +42,51 @@ module _ {limited : Bool} {t : List ℕ} {c : ℕ} {m : List ℕ} where
       stopped = tt;
     }
 
-    pub trying-start : Sized t c → r ≤ c → Trying limited t c m r 1
-    trying-start z h = record {
-      rested = record {
+    -- at the next slot that is on
+    module _ (z : Sized t c) (h : r ≤ c) where
+      pub rested-here : Rested limited t c m r
+      rested-here = record {
         room = s .room;
         first = omega (arith, s .first, l .first);
         most = omega arith;
         off = s .off;
         below = λ k i j q. idle-below k i j q;
-      };
-      on = l .on (omega (arith, z .most));
-      most = h;
-      lowest = omega arith;
-      highest = omega arith;
-      tried = λ j p q. absurd (omega arith);
-    }
+      }
+
+      pub slot-on : (r < 4096) × (length m ≡ 64) × (bitAt m r ≡ 1)
+      slot-on = (omega (arith, z .most), s .room, l .on (omega (arith, z .most)))
+
+      pub trying-start : Trying limited t c m r 1
+      trying-start = record {
+        rested = rested-here;
+        most = h;
+        lowest = omega arith;
+        highest = omega arith;
+        tried = λ j p q. absurd (omega arith);
+      }
+
+      -- no rule passes there, and it is taken off
+      pub taken-off : Idle limited t c r → {m′ : List ℕ} → Cleared m r m′ → Rested limited t c m′ (r + 1)
+      taken-off d x = record {
+        room = x .room;
+        first = omega arith;
+        most = omega arith;
+        off = λ k i j e. elim (ℕ-discrete k r) [
+          | yes q ↦ rw q d
+          | no q ↦
+              let f = rw (ne-eqb k r q) at (x .bits k (omega (arith, z .most))) in
+              s .off k i j (sym f ∙ e)
+        ];
+        below = λ k i j q. elim (ℕ-discrete k r) [
+          | yes e ↦ rw e d
+          | no e ↦ idle-below k i j (omega arith)
+        ];
+      }
 
   module _ {v n : ℕ} (s : Trying limited t c m v n) where
     pub trying-on : n ≤ 8 → passes limited t c v n ≡ false → Trying limited t c m v (n + 1)
     trying-on h e = record {
       rested = s .rested;
-      on = s .on;
       most = s .most;
       lowest = omega arith;
       highest = omega arith;
@@ -78,29 +103,17 @@ module _ {limited : Bool} {t : List ℕ} {c : ℕ} {m : List ℕ} where
       stopped = record { first = s .rested .first; most = s .most; due = e; rested = s .rested };
     }
 
-    -- no rule passes at v, and it is taken off
-    idle-here : 8 < n → Idle limited t c v
-    idle-here h j p q = s .tried j p (omega arith)
+    -- none of the eight passes
+    pub trying-end : 8 < n → Idle limited t c v
+    trying-end h j p q = s .tried j p (omega arith)
 
-    pub trying-end : Sized t c → 8 < n → {m′ : List ℕ} → Cleared m v m′ → Rested limited t c m′ (v + 1)
-    trying-end z h x = record {
-      room = x .room;
-      first = omega arith;
-      most = omega (arith, s .most);
-      off = λ k i j e. elim (ℕ-discrete k v) [
-        | yes q ↦ rw q (idle-here h)
-        | no q ↦
-            let f = rw (ne-eqb k v q) at (x .bits k (omega (arith, z .most))) in
-            s .rested .off k i j (sym f ∙ e)
-      ];
-      below = λ k i j l. elim (ℕ-discrete k v) [
-        | yes q ↦ rw q (idle-here h)
-        | no q ↦ s .rested .below k i j (omega arith)
-      ];
-    }
+-- no rule may pass at v
+pub calm-idle : (limited : Bool) (t : List ℕ) (c v : ℕ) {b : Bool} → b ≡ stirsAt t c v → b ≡ false → Idle limited t c v
+calm-idle limited t c v e f = λ n p q. none-passes t c v (sym e ∙ f) limited n
 
 -- every slot is on at first
-pub all-on : {limited : Bool} {t : List ℕ} {c : ℕ} → Sized t c → Rested limited t c (replicate 64 18446744073709551615) 1
+pub all-on : {limited : Bool} {t : List ℕ} {c : ℕ} → Sized t c
+    → Rested limited t c (replicate 64 18446744073709551615) 1
 all-on z = record {
   room = length-replicate {A = ℕ} 64 18446744073709551615;
   first = omega arith;

@@ -1,5 +1,4 @@
 -- What the functions of `tidy` cite beside `scope`.
-pub mod Sight
 pub mod Found
 pub mod Roused
 pub mod Running

@@ -3,6 +3,5 @@ pub mod call;
 pub mod rouse;
 pub mod run;
 pub mod scan;
-pub mod test;
 
 pub use call::tidy;

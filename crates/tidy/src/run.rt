@@ -1,12 +1,12 @@
 // The loop of tidy: fire the next one, until none is due or the budget is spent.
 use crate::rouse::rouse;
 use crate::scan::first;
-use crate::test::Sight;
-use crate::test::look;
 use scope::Next;
 use scope::Nodes;
 use scope::Rule;
 use scope::RuleIs;
+use sight::Sight;
+use sight::look;
 ghost use mathlib.Core.Path.{_≡_};
 ghost use mathlib.Core.Bool.{cond};
 ghost use Rattle.scope.specs.Tidy.{quiet};

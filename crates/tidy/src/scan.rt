@@ -1,7 +1,8 @@
 // The stated order: the lowest slot, then the lowest rule, left by a label at the first that passes.
-use crate::test::passes;
 use scope::Next;
 use scope::Rule;
+use sight::passes;
+use sight::stirs;
 ghost use Rattle.words.specs.Ready.{Sized};
 ghost use Rattle.tidy.specs.Found.{Rested, Found};
 
@@ -16,12 +17,14 @@ pub fn first(limited: bool, t: &[u32], c: usize, m: &mut [u64; 64], from: usize)
         if c < v {
             break Next::Nothing;
         }
-        let mut n: u32 = Rule::LP;
-        while n <= Rule::RLR {
-            if passes(limited, t, c, v, n) {
-                break 'slots Next::At(v, n);
+        if stirs(t, c, v) {
+            let mut n: u32 = Rule::LP;
+            while n <= Rule::RLR {
+                if passes(limited, t, c, v, n) {
+                    break 'slots Next::At(v, n);
+                }
+                n += 1;
             }
-            n += 1;
         }
         agenda::take_off(m, v);
         v += 1;

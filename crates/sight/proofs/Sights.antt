@@ -17,8 +17,8 @@ use Rattle.scope.specs.declared.side.Side.{Side}
 use Rattle.scope.specs.declared.side.Link.{Link}
 use Rattle.scope.specs.declared.rule.Rule.{Rule}
 use Rattle.scope.specs.declared.rule.RuleIs.the-variants as rule-is
-use Rattle.tidy.specs.Sight.{names, sightThird, sightOf, judgeSight}
-use Rattle.tidy.specs.declared.test.Sight.the-variants.{Missing, Seen}
+use Rattle.sight.specs.Sight.{names, sightThird, sightOf, judgeSight}
+use Rattle.sight.specs.declared.test.Sight.the-variants.{Missing, Seen}
 
 pub sight-is : (t : List ℕ) (c : ℕ) (r : Rule) (link : Link) (v : ℕ)
     → sightOf t c r link v ≡ cond (present c (nodesAt t r link v)) (Seen (nodesAt t r link v)) Missing

@@ -1,12 +1,12 @@
--- `tidy::test::third` meets its contract. Assumes nothing.
+-- `sight::test::third` meets its contract. Assumes nothing.
 use mathlib.Core.Path.{_∙_, sym}
 use denote.Ref.{now}
 use borrow.Author.Needs.{needs}
-use Rattle.tidy.proofs.Sights.{third-seen, named}
-use Rattle.tidy.specs.Sight.{sightThird}
+use Rattle.sight.proofs.Sights.{third-seen, named}
+use Rattle.sight.specs.Sight.{sightThird}
 use Rattle.words.proofs.Laws.{in-table}
-use Rattle.tidy.proofs.test.third.Statement.{statement}
-use Rattle.tidy.proofs.test.third.Tie as tie
+use Rattle.sight.proofs.test.third.Statement.{statement}
+use Rattle.sight.proofs.test.third.Tie as tie
 
 slot-at-requires : tie.Need-slot-at-requires
 slot-at-requires c κs = search needs

@@ -8,7 +8,7 @@ use scope::Slot;
 use scope::State;
 ghost use mathlib.Core.Path.{_≡_};
 ghost use Rattle.scope.specs.Tidy.{passes};
-ghost use Rattle.tidy.specs.Sight.{sightOf, sightThird, judgeSight, InSlot};
+ghost use Rattle.sight.specs.Sight.{sightOf, sightThird, judgeSight, InSlot};
 
 // What a rule sees at a slot: its nodes, or that one of them is missing.
 pub enum Sight {

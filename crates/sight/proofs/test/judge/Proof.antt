@@ -1,9 +1,9 @@
--- `tidy::test::judge` meets its contract. Assumes nothing.
+-- `sight::test::judge` meets its contract. Assumes nothing.
 use mathlib.Core.Path.{sym}
 use borrow.Author.Needs.{needs}
-use Rattle.tidy.specs.Sight.{judgeSight}
-use Rattle.tidy.proofs.test.judge.Statement.{statement}
-use Rattle.tidy.proofs.test.judge.Tie as tie
+use Rattle.sight.specs.Sight.{judgeSight}
+use Rattle.sight.proofs.test.judge.Statement.{statement}
+use Rattle.sight.proofs.test.judge.Tie as tie
 
 enum-told : tie.Need-enum-told
 enum-told c = search needs

@@ -11,8 +11,8 @@ use Rattle.scope.specs.declared.slot.Slot.{Slot}
 use Rattle.scope.specs.declared.side.Link.{Link}
 use Rattle.scope.specs.declared.rule.Rule.{Rule}
 use Rattle.words.specs.Ready.{Sized}
-use Rattle.tidy.specs.declared.test.Sight.{Sight}
-use Rattle.tidy.specs.declared.test.Sight.the-variants.{Missing, Seen}
+use Rattle.sight.specs.declared.test.Sight.{Sight}
+use Rattle.sight.specs.declared.test.Sight.the-variants.{Missing, Seen}
 
 -- slot k of a table of c slots
 pub record InSlot (t : List ℕ) (c k : ℕ) : Type 0 where

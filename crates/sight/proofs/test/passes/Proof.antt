@@ -1,11 +1,11 @@
--- `tidy::test::passes` meets its contract. Assumes nothing.
+-- `sight::test::passes` meets its contract. Assumes nothing.
 use mathlib.Core.Path.{sym, _∙_}
 use denote.Ref.{now}
 use borrow.Author.Needs.{needs}
-use Rattle.tidy.proofs.Sights.{judged-passes}
+use Rattle.sight.proofs.Sights.{judged-passes}
 use Rattle.scope.specs.Tidy.{passes}
-use Rattle.tidy.proofs.test.passes.Statement.{statement}
-use Rattle.tidy.proofs.test.passes.Tie as tie
+use Rattle.sight.proofs.test.passes.Statement.{statement}
+use Rattle.sight.proofs.test.passes.Tie as tie
 
 of-requires : tie.Need-of-requires
 of-requires c κs = search needs

@@ -1,13 +1,13 @@
--- `tidy::test::look` meets its contract. Assumes nothing.
+-- `sight::test::look` meets its contract. Assumes nothing.
 use mathlib.Core.Bool.{not}
 use mathlib.Core.Path.{sym}
 use borrow.Author.Needs.{needs}
 use lib.Dec.{eqb}
-use Rattle.tidy.proofs.Sights.{named}
-use Rattle.tidy.specs.Sight.{sightOf}
+use Rattle.sight.proofs.Sights.{named}
+use Rattle.sight.specs.Sight.{sightOf}
 use Rattle.scope.proofs.Bools.{and-r}
-use Rattle.tidy.proofs.test.look.Statement.{statement}
-use Rattle.tidy.proofs.test.look.Tie as tie
+use Rattle.sight.proofs.test.look.Statement.{statement}
+use Rattle.sight.proofs.test.look.Tie as tie
 
 slot-at-requires : tie.Need-slot-at-requires
 slot-at-requires c κs = search needs

@@ -1,0 +1,3 @@
+-- Laws of what a rule sees.
+pub mod Sights
+pub mod Calm
