@@ -1,17 +1,13 @@
--- A bit taken off, a word with none on, and words with all on. Assumes nothing.
-use Prim.Native.Nat.{ℕ, zero, suc, _/_, _%_, _^_, _<_}
-use mathlib.Core.Path.{_≡_, refl, ap, _∙_}
-use mathlib.Core.Bool.{Bool, true, _&&_, cond}
+-- A bit taken off. Assumes nothing.
+use Prim.Native.Nat.{ℕ, _/_, _%_, _^_, _<_}
+use mathlib.Core.Path.{_≡_, ap, _∙_}
+use mathlib.Core.Bool.{cond}
 use mathlib.Core.List.{List}
-use native.Mathlib.Nat.{div-self, zero-div}
-use native.Mathlib.Decide.{decLt}
-use native.Mathlib.Omega.{arith}
-use lib.ListN.{length, getD, set, replicate, getD-replicate}
+use native.Mathlib.Nat.{div-self}
+use lib.ListN.{length, getD, set}
 use lib.Dec.{eqb}
 use lib.Pow.{pow-pos}
 use lib.Bits.{bitXor, xor-shr, xor-mod, xor-zero-r}
-use borrow.Author.Tests.{eqb-true}
-use Rattle.scope.proofs.Bools.{and-l, and-r}
 use Rattle.marks.specs.Marks.{bitAt}
 use Rattle.marks.proofs.Bits.{other-bit, one-bit}
 
@@ -35,31 +31,3 @@ clears m k hk len on =
     let w = getD m (k / 64) 0 in
     let e : w / 2 ^ (k % 64) % 2 ≡ 1 = unfold bitAt in on in
     one-bit m k (bitXor w (2 ^ (k % 64))) 0 hk len (flip-same w (k % 64) e) (λ i. flip-other w (k % 64) i)
-
--- a word of 0 has no bit on
-pub none-on : (m : List ℕ) (k j : ℕ) → getD m (k / 64) 0 ≡ 0 → j / 64 ≡ k / 64 → bitAt m j ≡ 0
-unfolding bitAt
-none-on m k j e h =
-    ap (λ (x : ℕ). x / 2 ^ (j % 64) % 2) (ap (λ (i : ℕ). getD m i 0) h ∙ e)
-    ∙ ap (λ (x : ℕ). x % 2) (zero-div (2 ^ (j % 64)))
-
--- the lowest n bits of the largest word are on
-allOn : ℕ → Bool
-allOn zero = true
-allOn (suc n) = eqb (18446744073709551615 / 2 ^ n % 2) 1 && allOn n
-
-all-on : (n : ℕ) → allOn n ≡ true → (b : ℕ) → b < n → 18446744073709551615 / 2 ^ b % 2 ≡ 1
-unfolding allOn
-all-on zero e b h = absurd (omega arith)
-all-on (suc n) e b h =
-    elim (decLt b n) [
-      | yes i ↦ all-on n (and-r (eqb (18446744073709551615 / 2 ^ n % 2) 1) _ e) b i
-      | no i ↦ let top : b ≡ n = omega arith in rw top (eqb-true _ 1 (and-l _ _ e))
-    ]
-
--- every slot is on at first
-pub all-marks : (k : ℕ) → k < 4096 → bitAt (replicate 64 18446744073709551615) k ≡ 1
-unfolding bitAt
-all-marks k h =
-    ap (λ (w : ℕ). w / 2 ^ (k % 64) % 2) (getD-replicate 64 (k / 64) 18446744073709551615 0 (omega arith))
-    ∙ all-on 64 (unfold allOn in refl) (k % 64) (omega arith)

@@ -1,24 +1,12 @@
 -- The search for the lowest slot that is on, under way. Assumes nothing.
-use Prim.Native.Nat.{ℕ, _+_, _*_, _/_, _≤_, _<_}
-use mathlib.Core.Path.{_≡_}
+use Prim.Native.Nat.{ℕ, _%_, _≤_, _<_}
+use mathlib.Core.Path.{_≡_, _∙_}
 use mathlib.Core.List.{List}
 use native.Mathlib.Decide.{decLt, ℕ-discrete}
 use native.Mathlib.Omega.{arith}
-use lib.ListN.{getD}
-use Rattle.marks.specs.Marks.{bitAt}
-use Rattle.agenda.specs.Agenda.{Past, Lowest}
-use Rattle.agenda.proofs.Flips.{none-on}
-
--- past a word with no bit on
-pub past-word : (m : List ℕ) (k at : ℕ) → at ≡ k / 64 → k < 4096 → getD m at 0 ≡ 0 → Past m k (64 * at + 64)
-past-word m k at e h z = record {
-  further = omega arith;
-  most = omega arith;
-  off = λ j p q. none-on m k j (rw (← e) z) (omega arith);
-}
-
-pub past-one : (m : List ℕ) (k : ℕ) → k < 4096 → Past m k (k + 1)
-past-one m k h = record { further = omega arith; most = omega arith; off = λ j p q. absurd (omega arith) }
+use Rattle.marks.specs.Marks.{bitAt, Past}
+use Rattle.marks.proofs.Passing.{none-on}
+use Rattle.agenda.specs.Agenda.{Lowest}
 
 -- no slot from `from` up to k is on
 pub record Seeking (m : List ℕ) (from k : ℕ) : Type 0 where
@@ -37,7 +25,7 @@ module _ {m : List ℕ} {from : ℕ} where
     pub seeking-end : 4096 ≤ k → Lowest m from k
     seeking-end h = record { first = s .first; most = s .most; on = λ i. absurd (omega arith); off = s .off }
 
-    pub seeking-on : bitAt m k ≡ 0 → {r : ℕ} → Past m k r → Seeking m from r
+    pub seeking-on : bitAt m k ≡ 0 → {r : ℕ} → Past m k 0 r → Seeking m from r
     seeking-on e {r} p = record {
       first = omega (arith, s .first, p .further);
       most = p .most;
@@ -45,7 +33,7 @@ module _ {m : List ℕ} {from : ℕ} where
         | yes i ↦ rw i e
         | no i ↦ elim (decLt j k) [
           | yes l ↦ s .off j a l
-          | no l ↦ p .off j (omega arith) b
+          | no l ↦ p .bits j (omega arith) b ∙ none-on (j % 64)
         ]
       ];
     }

@@ -19,12 +19,6 @@ pub record Woken (m : List ℕ) (low k r : ℕ) (m' : List ℕ) : Type 0 where
   pub most : r ≤ k
   pub first : 1 ≤ low → 1 ≤ k → 1 ≤ r
 
--- no slot between k and r is on
-pub record Past (m : List ℕ) (k r : ℕ) : Type 0 where
-  pub further : k < r
-  pub most : r ≤ 4096
-  pub off : (j : ℕ) → k < j → j < r → bitAt m j ≡ 0
-
 -- r is the lowest slot from k on that is on, or 4,096
 pub record Lowest (m : List ℕ) (k r : ℕ) : Type 0 where
   pub first : k ≤ r

@@ -3,13 +3,10 @@ ghost use mathlib.Core.Path.{_≡_};
 ghost use Prim.Native.Nat.{_≤_, _<_};
 ghost use lib.ListN.{length};
 ghost use Rattle.marks.specs.Marks.{bitAt};
-ghost use Rattle.agenda.specs.Agenda.{Cleared, Past, Lowest, Woken};
+ghost use Rattle.agenda.specs.Agenda.{Cleared, Lowest, Woken};
 
 // One more than the largest slot that has a bit.
 pub const SLOTS: usize = 4096;
-
-// A word with every bit on.
-pub const ALL_ON: u64 = 18446744073709551615;
 
 // Takes off slot k, which is on, and no other.
 pub fn take_off(m: &mut [u64; 64], k: usize)
@@ -31,15 +28,6 @@ pub fn put_on(m: &mut [u64; 64], low: usize, k: usize) -> usize
     if low < k { low } else { k }
 }
 
-// Where to look after slot k: past all the slots of its word, if none of them is on.
-pub fn past(m: &[u64; 64], k: usize) -> usize
-    requires { ⌜ k < 4096 ⌝ }
-    ensures { λ r. ⌜ Past (now (m .entry)) k r ⌝ }
-{
-    let at = k / 64;
-    if m[at] == 0 { 64 * at + 64 } else { k + 1 }
-}
-
 // The lowest slot from a given one on that is on, or 4,096 for none.
 pub fn lowest(m: &[u64; 64], from: usize) -> usize
     requires { ⌜ from ≤ 4096 ⌝ }
@@ -50,7 +38,7 @@ pub fn lowest(m: &[u64; 64], from: usize) -> usize
         if marks::marked(m, k) {
             return k;
         }
-        k = past(m, k);
+        k = marks::past(m, k, 0);
     }
     k
 }

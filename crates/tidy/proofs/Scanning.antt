@@ -12,7 +12,7 @@ use Rattle.scope.specs.declared.outcome.Next.the-variants.{At, Nothing}
 use Rattle.words.specs.Ready.{Sized}
 use Rattle.marks.specs.Marks.{bitAt}
 use Rattle.agenda.specs.Agenda.{Cleared, Lowest}
-use Rattle.agenda.proofs.Flips.{all-marks}
+use Rattle.marks.proofs.Passing.{all-marks}
 use Rattle.sight.specs.Stirring.{stirsAt}
 use Rattle.sight.proofs.Calm.{none-passes}
 use Rattle.tidy.specs.Found.{Idle, Rested, Found}

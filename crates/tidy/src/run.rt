@@ -83,7 +83,7 @@ pub fn run(t: &mut [u32], c: usize, budget: u32) -> u32
     ensures { λ made. ⌜ Ran (now (t .entry)) c budget made (now (t .exit)) ⌝ }
 {
     let mut h = [0u32; 4096];
-    let mut m = [agenda::ALL_ON; 64];
+    let mut m = [marks::ALL_ON; 64];
     holders::fill(t, c, &mut h);
     run_on(t, c, &mut h, &mut m, budget)
 }
@@ -93,7 +93,7 @@ pub fn rest(t: &[u32], c: usize) -> u64
     requires { ⌜ Sized (now t) c ⌝ }
     ensures { λ r. ⌜ r ≡ cond (quiet (now (t .entry)) c) 1 0 ⌝ }
 {
-    let mut m = [agenda::ALL_ON; 64];
+    let mut m = [marks::ALL_ON; 64];
     match first(false, t, c, &mut m, 1) {
         Next::Nothing => 1,
         Next::At(_, _) => 0,
