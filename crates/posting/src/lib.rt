@@ -29,8 +29,9 @@ pub fn free_slot(t: &[u32], c: usize) -> usize
     requires { ⌜ Ready (now t) c ⌝ }
     ensures { λ r. ⌜ Free (now (t .entry)) c r ⌝ }
 {
+    let end = c + 1;
     let mut k: usize = 1;
-    while k <= c {
+    while k < end {
         if words::state_at(t, k) == State::FREE {
             return k;
         }
