@@ -1,6 +1,6 @@
 -- A rule that is due at a slot: its link, its nodes, and the table and the notes after its firing. Assumes nothing.
 use Prim.Native.Nat.{ℕ, _≤_}
-use mathlib.Core.Path.{_≡_, refl, _∙_, ap}
+use mathlib.Core.Path.{_≡_, refl, sym, _∙_, ap}
 use mathlib.Core.Bool.{true, not, _&&_}
 use mathlib.Core.List.{List}
 use native.Mathlib.Omega.{arith}
@@ -23,12 +23,12 @@ use Rattle.bridge.proofs.Linked.{link-to}
 use Rattle.bridge.proofs.Meets.{due-meets, v-some}
 use Rattle.holders.specs.Codes.{linkOf, aboveOf}
 use Rattle.holders.specs.Holds.{Holds, Moving, editsOf, noted}
+use Rattle.holders.specs.Away.{Elsewhere, Unnoted}
 use Rattle.holders.proofs.Links.{code-link, son-in, held-son, held-most}
 use Rattle.holders.proofs.Fired.{fired-holds, fired-whole}
 use Rattle.holders.proofs.Acts.{AreSlots}
 use Rattle.holders.proofs.Untouched.{Lies}
-use Rattle.holders.proofs.Elsewhere.{noted-at}
-use Rattle.holders.proofs.Upward.{Record, above-record}
+use Rattle.holders.proofs.Upward.{Record, noted-at, above-record, unnoted-away}
 
 -- a number that names a slot
 named : (c k : ℕ) → (not (eqb k 0) && leb k c) ≡ true → (1 ≤ k) × (k ≤ c)
@@ -90,6 +90,10 @@ module _ {t : List ℕ} {c : ℕ} (wh : Whole t c) (v n : ℕ) (first : 1 ≤ v)
     holds-again =
         let j : AreSlots (nodesAt t r link (word t (linkAt link))) = rw (linked .1) node-slots in
         rw fired-is (rw (linked .1) at (fired-holds wh link (linked .0) o r j))
+
+    -- a slot that is not put on is away from the firing
+    pub away : (x : ℕ) → 1 ≤ x → x ≤ c → Unnoted h nodes x → Elsewhere t nodes x
+    away = unnoted-away o link (linked .0) (rw (linked .1) first) nodes refl (sym (linked .1))
 
     -- the two slots above v
     pub above-one : Record t c (aboveOf h v)

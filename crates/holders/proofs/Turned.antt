@@ -69,8 +69,11 @@ module _ {t : List ℕ} {c : ℕ} (wh : Whole t c) (l : Link) (i : LinkIn c l) (
   abbrev b : ℕ
   b = codeOf (linkFor v s)
 
+  small : {k : ℕ} → k ≤ c → k ≤ 4095
+  small j = omega (arith, wh .sized .most)
+
   most : (q : ℕ) → CodeIn c q → heldAt t q ≤ 4095
-  most q j = omega (arith, held-most wh q j, wh .sized .most)
+  most q j = small (held-most wh q j)
 
   module _ (vi : 1 ≤ v) (ui : 1 ≤ u) where
     pub v-most : v ≤ c
@@ -84,6 +87,12 @@ module _ {t : List ℕ} {c : ℕ} (wh : Whole t c) (l : Link) (i : LinkIn c l) (
 
     a-in : CodeIn c a
     a-in = son-in u (other s) ui u-most
+
+    at-v : (1 ≤ v) × (v ≤ c)
+    at-v = (vi, v-most)
+
+    at-u : (1 ≤ u) × (u ≤ c)
+    at-u = (ui, u-most)
 
     apart : Two v u (l .holder)
     apart = two wh l i vi s ui
@@ -113,10 +122,8 @@ module _ {t : List ℕ} {c : ℕ} (wh : Whole t c) (l : Link) (i : LinkIn c l) (
       unfolding heldBy heldPart noteBy notePart after told
       turned-holds w sw =
           by-moves (wh .sized) o (rotates s (pairAt w sw)) (takes b a ∷ takes a g ∷ takes g b ∷ [])
-          (i, (in-u, (in-v, ((vi, v-most), ((ui, u-most), tt))))) (
-            omega (arith, u-most, wh .sized .most),
-            (omega (arith, v-most, wh .sized .most), (rw (← held-son t u (other s) ui) (most a a-in), (tt, (tt, tt)))),
-          )
+          (i, (in-u, (in-v, (at-v, (at-u, tt)))))
+          (small u-most, (small v-most, (rw (← held-son t u (other s) ui) (most a a-in), (tt, (tt, tt)))))
           (a-in, ((λ e. g-a (sym e)), (a-b, tt)), (code-in l i, (g-b, tt), (b-in, tt, tt)))
           (λ q n. (n .1 .0, (n .1 .1 .0, (n .0, tt))))
           (λ q. rw (held-son t u (other s) ui, held-link t l, held-son t v s vi) refl)
@@ -173,41 +180,23 @@ module _ {t : List ℕ} {c : ℕ} (wh : Whole t c) (l : Link) (i : LinkIn c l) (
           ),
         )
 
+        low : (side : Side) → son (slotAt t m) side ≤ 4095
+        low side = rw (← held-son t m side wi) (most (codeOf (linkFor m side)) (w-in side))
+
+        at-w : (1 ≤ m) × (m ≤ c)
+        at-w = (wi, w-most)
+
         noted-all : EachNoted (rotatesTwice s (pairAt m (slotAt t m)))
-        noted-all = (
-          omega (arith, w-most, wh .sized .most),
-          (
-            omega (arith, u-most, wh .sized .most),
-            (
-              omega (arith, v-most, wh .sized .most),
-              (
-                rw (← held-son t m s wi) (most wn (w-in s)),
-                (rw (← held-son t m (other s) wi) (most wf (w-in (other s))), (tt, (tt, (tt, (tt, tt))))),
-              ),
-            ),
-          ),
-        )
+        noted-all = (small w-most, (small u-most, (small v-most, (low s, (low (other s), (tt, (tt, (tt, (tt, tt)))))))))
+
+        proper : AllProper c (rotatesTwice s (pairAt m (slotAt t m)))
+        proper = (i, (in-w s, (in-w (other s), (in-u, (in-v, (at-u, (at-v, (at-w, (at-w, tt)))))))))
 
         pub twice-holds : Holds (written t (writes (rotatesTwice s (pairAt m (slotAt t m))))) c
             (noted (rotatesTwice s (pairAt m (slotAt t m))) h)
         unfolding heldBy heldPart noteBy notePart after told
         twice-holds =
-            by-moves (wh .sized) o (rotatesTwice s (pairAt m (slotAt t m))) moves (
-              i,
-              (
-                in-w s,
-                (
-                  in-w (other s),
-                  (
-                    in-u,
-                    (
-                      in-v,
-                      ((ui, u-most), ((vi, v-most), ((wi, w-most), ((wi, w-most), tt)))),
-                    ),
-                  ),
-                ),
-              ),
-            )
+            by-moves (wh .sized) o (rotatesTwice s (pairAt m (slotAt t m))) moves proper
             noted-all once
             (λ q n. (n .1 .1 .0, (n .1 .1 .1 .0, (n .1 .1 .1 .1 .0, (n .0, (n .1 .0, tt))))))
             (λ q. rw (wf-son, wn-son, held-link t l, held-son t v s vi, held-son t u (other s) ui) refl)

@@ -1,4 +1,4 @@
--- A link as a number: twice its holder, one more on the right, 0 for the root's. Assumes nothing: these are definitions.
+-- A link as a number: twice its holder, one more on the right, 0 at the root. Assumes nothing: these are definitions.
 use Prim.Native.Nat.{ℕ, _+_, _*_, _/_, _%_}
 use mathlib.Core.Bool.{cond}
 use mathlib.Core.List.{List}

@@ -16,9 +16,9 @@ use Rattle.scope.specs.declared.rule.RuleIs.the-variants as rule-is
 use Rattle.scope.specs.declared.outcome.Nodes.{Nodes}
 use Rattle.rules.specs.Aimed.{Within}
 use Rattle.holders.specs.Codes.{linkOf}
-use Rattle.holders.specs.Away.{Elsewhere}
+use Rattle.holders.specs.Away.{Unnoted}
 use Rattle.holders.proofs.DueNodes.{node-slots, nodes-lie, fired-is, whole-again}
-use Rattle.holders.proofs.DueNodes.{link-noted, holds-again, may-move, above-one, above-two}
+use Rattle.holders.proofs.DueNodes.{link-noted, away, holds-again, may-move, above-one, above-two}
 use Rattle.holders.proofs.AsBefore.{as-before}
 use Rattle.sight.specs.Sight.{sightOf}
 use Rattle.tidy.specs.Roused.{Rousing}
@@ -118,8 +118,10 @@ module _ {t : List ℕ} {c : ℕ} {h m : List ℕ} {v n : ℕ} (d : Due t c h m 
         rousing = rousing;
       })
 
-  same-tests : (k : ℕ) → 1 ≤ k → k ≤ c → Elsewhere h nodes k → SameTests t (firedAt t c v n) c k
-  same-tests k i j a = as-before (d .whole) (d .holds) v n (d .first) (d .most) (d .due) e k i j a true
+  same-tests : (k : ℕ) → 1 ≤ k → k ≤ c → Unnoted h nodes k → SameTests t (firedAt t c v n) c k
+  same-tests k i j a =
+      as-before (d .whole) v n (d .first) (d .most) (d .due) e k i j
+      (away (d .whole) v n (d .first) (d .most) (d .due) e (d .holds) k i j a) true
 
   module _ {from : ℕ} {t′ h′ m′ : List ℕ} where
     fired-so : Acted t h m c r nodes from t′ h′ m′ → Fired t m c v n from t′ h′ m′

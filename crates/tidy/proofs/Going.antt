@@ -1,4 +1,4 @@
--- The loop of tidy under way: what is left to fire gives what the whole gives, and one law for each way. Assumes nothing.
+-- The loop of tidy under way: what is left to fire gives what the whole gives, a law for each way. Assumes nothing.
 use Prim.Native.Nat.{ℕ, zero, suc, _+_, _-_, _≤_}
 use mathlib.Core.Path.{_≡_, refl, sym, _∙_, ap}
 use mathlib.Core.Bool.{true, false}

@@ -6,7 +6,7 @@ use lib.ListN.{length}
 use Rattle.scope.specs.declared.outcome.Nodes.{Nodes}
 use Rattle.marks.specs.Marks.{bitAt}
 use Rattle.holders.specs.Codes.{aboveOf}
-use Rattle.holders.specs.Away.{NoNode, Elsewhere}
+use Rattle.holders.specs.Away.{NoNode, Unnoted}
 
 -- the nodes are slots that have a bit
 pub record Slots (m : List ℕ) (x : Nodes) : Type 0 where
@@ -40,4 +40,4 @@ NodesRoused m x low m′ = On (NoNode x) m (x .v) low m′
 
 -- and so are the holders
 abbrev pub Roused : List ℕ → List ℕ → Nodes → ℕ → List ℕ → Type 0
-Roused h m x low m′ = On (Elsewhere h x) m (x .v) low m′
+Roused h m x low m′ = On (Unnoted h x) m (x .v) low m′

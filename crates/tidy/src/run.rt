@@ -24,7 +24,8 @@ pub fn fire_nodes(
     x: Nodes,
 ) -> usize
     requires { ⌜ DueAt (now t) c (now h) (now m) r x ⌝ }
-    ensures { λ from. ⌜ Acted (now (t .entry)) (now (h .entry)) (now (m .entry)) c r x from (now (t .exit)) (now (h .exit)) (now (m .exit)) ⌝ }
+    ensures { λ from. ⌜ Acted (now (t .entry)) (now (h .entry)) (now (m .entry)) c r x from
+        (now (t .exit)) (now (h .exit)) (now (m .exit)) ⌝ }
 {
     let from = rouse(h, m, x);
     acts::act(t, c, r, x);
@@ -42,7 +43,8 @@ pub fn fire_at(
     n: u32,
 ) -> usize
     requires { ⌜ Due (now t) c (now h) (now m) v n ⌝ }
-    ensures { λ from. ⌜ Fired (now (t .entry)) (now (m .entry)) c v n from (now (t .exit)) (now (h .exit)) (now (m .exit)) ⌝ }
+    ensures { λ from. ⌜ Fired (now (t .entry)) (now (m .entry)) c v n from
+        (now (t .exit)) (now (h .exit)) (now (m .exit)) ⌝ }
 {
     match Rule::of(n) {
         RuleIs::Unknown => 1,
