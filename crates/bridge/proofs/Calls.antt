@@ -12,7 +12,6 @@ use borrow.Author.Tests.{eq-eqb, ne-eqb, le-leb, eqb-true, ltb-false}
 use Rattle.scope.proofs.Bools.{by-bool}
 use Rattle.scope.specs.Numbers.{rootLink, slotsOf, sideOf, linkOf, knownLink, ruleOf}
 use Rattle.scope.specs.Table.{slotsIn}
-use Rattle.scope.specs.Answers.{refused}
 use Rattle.scope.specs.Tree.{Tree, times}
 use Rattle.scope.specs.Fire.{aimed, onRule, onLink, firePlan, fired, fireOf}
 use Rattle.scope.specs.declared.rule.Rule.{Rule}

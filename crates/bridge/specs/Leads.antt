@@ -6,8 +6,14 @@ use mathlib.Core.List.{List, [], _∷_}
 use Rattle.scope.specs.Table.{word, linkAt}
 use Rattle.scope.specs.Tree.{Tree}
 use Rattle.scope.specs.declared.side.Side.{Side}
+use Rattle.scope.specs.declared.side.Side.the-variants.{Left, Right}
 use Rattle.scope.specs.declared.side.Link.{Link}
 use Rattle.tree.specs.Place.{subtree}
+
+-- the number of a side
+abbrev pub sideNumber : Side → ℕ
+sideNumber Left = 0
+sideNumber Right = 1
 
 -- the link at the end of a way from link l
 unfoldable pub linkAlong : List ℕ → List Side → Link → Link

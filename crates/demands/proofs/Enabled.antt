@@ -24,6 +24,7 @@ use Rattle.scope.specs.declared.outcome.Next.the-variants.{At}
 use Rattle.scope.specs.declared.outcome.Firing.{Firing}
 use Rattle.scope.specs.declared.outcome.Firing.the-variants.{Refuse, Fire}
 use Rattle.sound.specs.Whole.{Whole}
+use Rattle.bridge.specs.Leads.{sideNumber}
 use Rattle.bridge.proofs.Along.{hangs-along}
 use Rattle.bridge.proofs.Fires.{hangs-root}
 use Rattle.bridge.proofs.Calls.{sized-slots, link-in}
@@ -34,7 +35,7 @@ use Rattle.bridge.proofs.Meets.{v-some, due-meets}
 use Rattle.bridge.specs.Due.{NotAfter}
 use Rattle.bridge.proofs.Searches.{next-first}
 use Rattle.demands.specs.Fires.{Trial}
-use Rattle.demands.specs.Tidying.{sideNumber, tried, DueTrial}
+use Rattle.demands.specs.Tidying.{tried, DueTrial}
 use Rattle.demands.proofs.Open.{some-code}
 
 -- the numbers of a link are its own

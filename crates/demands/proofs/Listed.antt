@@ -1,7 +1,7 @@
 -- Demand 1: every call is accepted, or refused with a listed code, four zeros and every word as it was. Assumes nothing.
 use Prim.Native.Nat.{ℕ}
 use mathlib.Core.Path.{_≡_, refl, sym, ap}
-use mathlib.Core.Bool.{true, not}
+use mathlib.Core.Bool.{true}
 use mathlib.Core.List.{List}
 use Rattle.scope.specs.Table.{word, changeWord}
 use Rattle.scope.specs.Answers.{Done, codeOf, accepted, refusal}

@@ -23,13 +23,12 @@ use Rattle.tree.proofs.Place.{placed}
 use Rattle.tree.proofs.Height.{height-size}
 use Rattle.tree.proofs.Quiet.{never-stuck}
 use Rattle.bridge.specs.Alike.{Alike}
-use Rattle.bridge.specs.Leads.{linkAlong, Leads}
+use Rattle.bridge.specs.Leads.{sideNumber, linkAlong, Leads}
 use Rattle.bridge.proofs.Along.{hangs-along}
 use Rattle.bridge.proofs.Fires.{hangs-root, same-way}
 use Rattle.bridge.proofs.Calls.{plan-is}
 use Rattle.bridge.proofs.Held.{root-only}
 use Rattle.bridge.proofs.Quiets.{relaxed, numbered}
-use Rattle.demands.specs.Tidying.{sideNumber}
 use Rattle.demands.proofs.Entries.{not-less}
 use Rattle.demands.proofs.Walks.{tree-small}
 

@@ -14,6 +14,7 @@ use Rattle.scope.specs.declared.outcome.Next.{Next}
 use Rattle.scope.specs.declared.outcome.Next.the-variants.{At, Nothing}
 use Rattle.scope.specs.declared.outcome.Firing.the-variants.{Fire}
 use Rattle.sound.specs.Whole.{Whole}
+use Rattle.bridge.specs.Leads.{sideNumber}
 use Rattle.bridge.proofs.Calls.{plan-is}
 use Rattle.bridge.proofs.Linked.{link-to}
 use Rattle.bridge.proofs.Meets.{v-some, due-meets, due-fires}
@@ -21,7 +22,7 @@ use Rattle.bridge.specs.Due.{Due}
 use Rattle.bridge.proofs.Searches.{next-due}
 use Rattle.ledger.specs.Ledger.{Ledger}
 use Rattle.demands.specs.Fires.{Trial}
-use Rattle.demands.specs.Tidying.{sideNumber, trialAt, tried, Firings, rests, spent, next, Stopped, all-spent, at-rest, Ran, Tidies}
+use Rattle.demands.specs.Tidying.{trialAt, tried, Firings, rests, spent, next, Stopped, all-spent, at-rest, Ran, Tidies}
 use Rattle.demands.proofs.Open.{sound-opens}
 use Rattle.demands.proofs.Stuck.{link-known}
 use Rattle.demands.proofs.Firing.{fire-ledger}

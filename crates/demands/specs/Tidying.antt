@@ -9,18 +9,12 @@ use Rattle.scope.specs.Answers.{Done, accepted}
 use Rattle.scope.specs.Fire.{fireOf}
 use Rattle.scope.specs.Tidy.{linkTo, nextOf, quiet, tidyAnswer, tidyTable}
 use Rattle.scope.specs.Calls.{answers, after}
-use Rattle.scope.specs.declared.side.Side.{Side}
-use Rattle.scope.specs.declared.side.Side.the-variants.{Left, Right}
 use Rattle.scope.specs.declared.outcome.Next.the-variants.{At, Nothing}
 use Rattle.sound.specs.Whole.{Whole}
 use Rattle.bridge.specs.Due.{Due}
 use Rattle.demands.specs.Fires.{Trial, fires}
 use Rattle.demands.specs.Ledgers.{ledgerOf}
-
--- the number of a side
-abbrev pub sideNumber : Side → ℕ
-sideNumber Left = 0
-sideNumber Right = 1
+use Rattle.bridge.specs.Leads.{sideNumber}
 
 -- the numbers of rule n at slot v, which hangs at a link of the table
 abbrev pub trialAt : List ℕ → ℕ → ℕ → ℕ → Trial

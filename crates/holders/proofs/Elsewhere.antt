@@ -15,7 +15,7 @@ use Rattle.scope.specs.declared.side.Link.{Link}
 use Rattle.scope.specs.declared.rule.Rule.{Rule}
 use Rattle.scope.specs.declared.outcome.Nodes.{Nodes}
 use Rattle.sound.specs.Whole.{Whole}
-use Rattle.bridge.proofs.Outside.{link-son}
+use Rattle.words.proofs.Laws.{link-son}
 use Rattle.bridge.proofs.Calls.{LinkIn}
 use Rattle.holders.specs.Codes.{linkFor, codeOf}
 use Rattle.holders.specs.Away.{NoNode, Elsewhere}

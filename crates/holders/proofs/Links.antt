@@ -19,7 +19,8 @@ use Rattle.bridge.proofs.Along.{hangs-along}
 use Rattle.bridge.proofs.Fires.{hangs-root}
 use Rattle.bridge.proofs.Calls.{LinkIn}
 use Rattle.bridge.proofs.Held.{way-to, one-link}
-use Rattle.holders.specs.Codes.{linkFor, sideNumber, codeOf, linkOf, heldAt}
+use Rattle.bridge.specs.Leads.{sideNumber}
+use Rattle.holders.specs.Codes.{linkFor, codeOf, linkOf, heldAt}
 use Rattle.holders.specs.Holds.{CodeIn}
 
 pub side-most : (s : Side) → sideNumber s ≤ 1

@@ -17,7 +17,8 @@ use Rattle.words.specs.Ready.{Sized}
 use Rattle.words.proofs.Laws.{link-lt}
 use Rattle.bridge.specs.Edit.{Part, sonOn, registerOn, Edit, placeOf, writes}
 use Rattle.bridge.proofs.Calls.{LinkIn}
-use Rattle.holders.specs.Codes.{linkFor, sideNumber, codeOf, linkOf, heldAt}
+use Rattle.bridge.specs.Leads.{sideNumber}
+use Rattle.holders.specs.Codes.{linkFor, codeOf, linkOf, heldAt}
 use Rattle.holders.specs.Holds.{CodeIn, notedPart, noted}
 use Rattle.holders.proofs.Links.{side-most, link-code, link-in, held-link}
 

@@ -13,7 +13,7 @@ use Rattle.scope.specs.declared.side.Link.{Link}
 use Rattle.scope.specs.declared.outcome.Nodes.{Nodes}
 use Rattle.words.proofs.Laws.{fits}
 use Rattle.sound.specs.Whole.{Whole}
-use Rattle.bridge.proofs.Outside.{link-son}
+use Rattle.words.proofs.Laws.{link-son}
 use Rattle.bridge.proofs.Along.{some-state}
 use Rattle.bridge.proofs.Ways.{same-none, leads-holder}
 use Rattle.bridge.proofs.Fires.{hangs-root}

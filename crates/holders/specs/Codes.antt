@@ -8,13 +8,10 @@ use Rattle.scope.specs.Table.{word, linkAt}
 use Rattle.scope.specs.declared.side.Side.{Side}
 use Rattle.scope.specs.declared.side.Side.the-variants.{Left, Right}
 use Rattle.scope.specs.declared.side.Link.{Link}
+use Rattle.bridge.specs.Leads.{sideNumber}
 
 abbrev pub linkFor : ℕ → Side → Link
 linkFor k s = record { holder = k; side = s }
-
-abbrev pub sideNumber : Side → ℕ
-sideNumber Left = 0
-sideNumber Right = 1
 
 unfoldable pub codeOf : Link → ℕ
 codeOf l = 2 * l .holder + sideNumber (l .side)
