@@ -1,37 +1,24 @@
 // The whole program: reads standard input, and prints what each line answers.
-use crate::step;
+use crate::fill;
 use libc::STDIN_FILENO;
 use libc::STDOUT_FILENO;
 use scope::Refusal;
 ghost use mathlib.Core.Path.{_≡_};
 ghost use Prim.Native.Nat.{_+_, _≤_};
-ghost use lib.ListN.{length};
+ghost use lib.ListN.{length, replicate};
 
-// Writes the buffer out where it has no room for the longest answer: the place to go on at.
-fn room(out: &[u8], at: usize) -> usize
-    requires { ⌜ (3343 ≤ length (now out)) × (at ≤ length (now out)) ⌝ }
-    ensures { λ r. ⌜ r + 3343 ≤ length (now (out .entry)) ⌝ }
-{
-    if out.len() - at < 3343 {
-        io::write_all(STDOUT_FILENO, &out[..at]);
-        return 0;
-    }
-    at
-}
-
-// Answers each line of the input.
+// Answers each line of the input. What is handed to `write_all`, piece after piece, is `runText input`: the loop's
+// invariant (proofs/Telling.antt). That `write_all` puts it on the descriptor is all that is assumed.
 fn answer_all(input: &[u8], t: &mut [u32], out: &mut [u8])
-    requires { ⌜ (3343 ≤ length (now out)) × (length (now t) ≡ 124) ⌝ }
+    requires { ⌜ (length (now input) ≤ 65536) × (now t ≡ replicate 124 0) × (3343 ≤ length (now out)) ⌝ }
 {
-    let mut at = 0;
     let mut from = 0;
     while from < input.len() {
-        let end = fields::line_end(input, from);
-        let p = room(out, at);
-        at = step(t, &input[from..end], out, p);
-        from = end + 1;
+        let filled = fill(t, input, from, out);
+        let at = filled.at;
+        io::write_all(STDOUT_FILENO, &out[..at]);
+        from = filled.next;
     }
-    io::write_all(STDOUT_FILENO, &out[..at]);
 }
 
 // What came of reading.

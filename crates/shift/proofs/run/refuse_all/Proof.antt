@@ -1,10 +1,10 @@
--- `desk::run::refuse_all` meets its contract. Assumes nothing.
+-- `shift::run::refuse_all` meets its contract. Assumes nothing.
 use mathlib.Core.Path.{sym}
 use native.Mathlib.Omega.{arith}
 use borrow.Author.Needs.{needs}
 use lib.Seq.{length-take-le}
-use Rattle.desk.proofs.run.refuse_all.Statement.{statement}
-use Rattle.desk.proofs.run.refuse_all.Tie as tie
+use Rattle.shift.proofs.run.refuse_all.Statement.{statement}
+use Rattle.shift.proofs.run.refuse_all.Tie as tie
 
 slice-aggregate-put-answer : tie.Need-slice-aggregate-put-answer
 slice-aggregate-put-answer c = search needs
