@@ -6,9 +6,9 @@ ghost use mathlib.Core.List.{[], _∷_};
 ghost use lib.ListN.{length, getD};
 ghost use Rattle.shift.specs.Run.{Answered};
 
-// Answers the lines of `input` from the place `from` on, as many as have room in `out`, on a table of 15 slots. `res` gets
-// the place where the next line begins, and how many bytes of `out` are filled. Under 3,343 bytes of `out` nothing is
-// answered: `res` is then `from` and 0.
+// Answers the lines of `input` from the place `from` on, as many as have room in `out`, on a table of 15 slots. `res`
+// gets the place where the next line begins, and how many bytes of `out` are filled. Under 3,343 bytes of `out` nothing
+// is answered: `res` is then `from` and 0.
 #[no_mangle]
 pub extern "C" fn ftk_stand(
     t: &mut [u32; 124],

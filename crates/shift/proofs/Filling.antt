@@ -1,5 +1,5 @@
 -- The loop of `fill`: what it has answered so far. Assumes nothing.
-use Prim.Native.Nat.{ℕ, _+_, _-_, _≤_, _<_}
+use Prim.Native.Nat.{ℕ, _+_, _≤_, _<_}
 use mathlib.Core.Path.{_≡_, refl, sym, ap, _∙_}
 use mathlib.Core.List.{List, _++_, append-assoc}
 use native.Mathlib.Omega.{arith}
@@ -28,17 +28,18 @@ pub after-both : (a b : List ℕ) (r : Run) → after a (after b r) ≡ after (a
 after-both a b r = ap (λ (w : List ℕ). record { text = w; table = r .table }) (sym (append-assoc a b (r .text)))
 
 -- a text that fits stands behind what was there
-put-front : {old text new : List ℕ} {at next : ℕ} → Put old at text new next → next ≤ length old
+pub put-front : {old text new : List ℕ} {at next : ℕ} → Put old at text new next → next ≤ length old
     → take next new ≡ take at old ++ text
 put-front {old} {text} {new} {at} {next} x h =
-    let l : length (take at old ++ text) ≡ next =
-    omega (arith, x .place, length-append (take at old) text, length-take-le at old (omega (arith, x .place))) in
+    let t = length-take-le at old (omega (arith, x .place)) in
+    let l : length (take at old ++ text) ≡ next = omega (arith, x .place, length-append (take at old) text, t) in
     ap (take next) (x .holds ∙ laid-is old at text (omega (arith, x .place))) ∙ take-at (take at old ++ text) _ next l
 
 -- ONE LINE MORE: WHAT IT PRINTS STANDS BEHIND THE REST, AND THE NEXT LINE BEGINS AFTER ITS NEWLINE
 pub one-more : {t s u out v new : List ℕ} {from next at end n room : ℕ} → Going t s from u out next at → next < length s
     → LineEnds s next end → PutIn out at (stepText u (lineAt s next end)) new n room
-    → v ≡ stepTable u (lineAt s next end) → at + room ≤ length out → length new ≡ length out → Going t s from v new (end + 1) n
+    → v ≡ stepTable u (lineAt s next end) → at + room ≤ length out → length new ≡ length out
+    → Going t s from v new (end + 1) n
 one-more {t} {s} {u} {out} {v} {new} {from} {next} {at} {end} {n} {room} g h e x q r k =
     let w = stepText u (lineAt s next end) in
     let y = wholeRun v (drop (end + 1) s) in
@@ -47,7 +48,11 @@ one-more {t} {s} {u} {out} {v} {new} {from} {next} {at} {end} {n} {room} g h e x
     record {
       so-far =
           record {
-            is = g .so-far .is ∙ ap (after (take at out)) p ∙ after-both (take at out) w y ∙ ap (λ (a : List ℕ). after a y) (sym f);
+            is =
+                g .so-far .is
+                ∙ ap (after (take at out)) p
+                ∙ after-both (take at out) w y
+                ∙ ap (λ (a : List ℕ). after a y) (sym f);
             within = omega (arith, x .within);
           };
       ahead = omega (arith, g .ahead, e .is);

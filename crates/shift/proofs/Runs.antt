@@ -12,7 +12,7 @@ use borrow.Author.Tests.{eq-eqb, ne-eqb}
 use Rattle.scope.proofs.Bools.{by-bool}
 use Rattle.fields.specs.Text.{firstLine, LineEnds}
 use Rattle.desk.specs.Step.{stepTable, stepText}
-use Rattle.shift.specs.Run.{Run, idle, after, linesRun, wholeRun}
+use Rattle.shift.specs.Run.{idle, after, linesRun, wholeRun}
 
 -- no bytes, no line
 pub no-lines : (more : ℕ) (t s : List ℕ) → length s ≤ 0 → linesRun more t s ≡ idle t
@@ -68,7 +68,8 @@ next-line t s from end h e =
     let l = firstLine r in
     let o : end + 1 ≡ from + (length l + 1) = omega (arith, e .is) in
     let d = length-drop (length l + 1) r in
+    let more = enough (length r) (length (rest r)) (stepTable t l) (rest r) (omega (arith, d)) (omega arith) in
     rw (line-part s from end e, o, sym (drop-drop (length l + 1) from s))
     (enough (length r) (suc (length r)) t r (omega arith) (omega arith)
     ∙ a-line (length r) t r (omega (arith, length-drop from s))
-    ∙ ap (after (stepText t l)) (enough (length r) (length (rest r)) (stepTable t l) (rest r) (omega (arith, d)) (omega arith)))
+    ∙ ap (after (stepText t l)) more)

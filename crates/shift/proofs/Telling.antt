@@ -1,11 +1,11 @@
 -- The loop of `answer_all`: what was handed on to be written, and what is still to be. Assumes nothing.
-use Prim.Native.Nat.{ℕ, _≤_}
+use Prim.Native.Nat.{ℕ, _≤_, _<_}
 use mathlib.Core.Path.{_≡_, refl, sym, ap, _∙_}
 use mathlib.Core.List.{List, [], _++_, append-nil, append-assoc}
 use native.Mathlib.Omega.{arith}
 use lib.ListN.{length, take, drop, replicate, length-drop}
-use borrow.Author.Tests.{le-ltb}
-use Rattle.shift.specs.Run.{Run, wholeRun, runText, Answered}
+use borrow.Author.Tests.{lt-ltb, le-ltb}
+use Rattle.shift.specs.Run.{Run, wholeRun, refusedText, runText, Answered}
 use Rattle.shift.proofs.Runs.{no-lines}
 
 -- `said` was handed on, piece by piece; what the lines from the place `from` on print is left of the run
@@ -33,3 +33,8 @@ told-all {s} {t} {from} w h =
     w .whole
     ∙ ap (λ (r : Run). w .said ++ r .text) (no-lines (length rest) t rest (omega (arith, length-drop from s)))
     ∙ append-nil (w .said)
+
+-- an input over 65,536 bytes is refused, however it goes on
+pub told-refused : (s : List ℕ) → 65536 < length s → runText s ≡ refusedText
+unfolding runText
+told-refused s h = rw (lt-ltb 65536 (length s) h)

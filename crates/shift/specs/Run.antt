@@ -34,13 +34,16 @@ linesRun (suc more) t s =
 abbrev pub wholeRun : List ℕ → List ℕ → Run
 wholeRun t s = linesRun (length s) t s
 
+-- an unreadable line
+abbrev pub refusedText : List ℕ
+refusedText = answerLine (refusal refusals.Unreadable)
+
 -- all that `stand` prints: it starts with 15 slots, and an input over 65,536 bytes is one unreadable line
 unfoldable pub runText : List ℕ → List ℕ
-runText s =
-    cond (ltb 65536 (length s)) (answerLine (refusal refusals.Unreadable)) (wholeRun (replicate 124 0) s .text)
+runText s = cond (ltb 65536 (length s)) refusedText (wholeRun (replicate 124 0) s .text)
 
--- the lines of s from the place `from` on are answered up to the place `next`: what is left of their run, after the first
--- `at` bytes of the buffer, is the run of the lines from `next` on, on the words u
+-- the lines of s from the place `from` on are answered up to the place `next`: their run is the first `at` bytes of the
+-- buffer, and then the run of the lines from `next` on, on the words u
 pub record Answered (t s : List ℕ) (from : ℕ) (u buffer : List ℕ) (next at : ℕ) : Type 0 where
   pub is : wholeRun t (drop from s) ≡ after (take at buffer) (wholeRun u (drop next s))
   pub within : at ≤ length buffer

@@ -5,10 +5,12 @@ use libc::STDOUT_FILENO;
 use scope::Refusal;
 ghost use mathlib.Core.Path.{_≡_};
 ghost use Prim.Native.Nat.{_+_, _≤_};
-ghost use lib.ListN.{length, replicate};
+ghost use lib.ListN.{length, take, replicate};
+ghost use Rattle.shift.specs.Run.{refusedText};
 
-// Answers each line of the input. What is handed to `write_all`, piece after piece, is `runText input`: the loop's
-// invariant (proofs/Telling.antt). That `write_all` puts it on the descriptor is all that is assumed.
+// Answers each line of the input, piece by piece. The loop's invariant (proofs/Telling.antt): the pieces so far, and
+// then what the lines that are left print, are `runText input`. No contract sees the call of `write_all`: that each piece
+// is handed to it stands below, and that it reaches the descriptor is assumed.
 fn answer_all(input: &[u8], t: &mut [u32], out: &mut [u8])
     requires { ⌜ (length (now input) ≤ 65536) × (now t ≡ replicate 124 0) × (3343 ≤ length (now out)) ⌝ }
 {
@@ -44,10 +46,11 @@ fn read_once(buf: &mut [u8]) -> Got
     }
 }
 
-// Reads once into buf from n on.
+// Reads once into buf from n on, and keeps what stands before.
 fn read_at(buf: &mut [u8], n: usize) -> Got
     requires { ⌜ n ≤ length (now buf) ⌝ }
     ensures { λ r. ⌜ n + r .count ≤ length (now (buf .entry)) ⌝ }
+    ensures { λ _. ⌜ take n (now (buf .exit)) ≡ take n (now (buf .entry)) ⌝ }
 {
     read_once(&mut buf[n..])
 }
@@ -73,10 +76,18 @@ fn read_input(buf: &mut [u8]) -> Got
     }
 }
 
-// An input that is too long or cannot be read is one unreadable line.
+// Puts the answer to an input that is too long or cannot be read: one unreadable line. The result is how long it is.
+fn put_refusal(out: &mut [u8]) -> usize
+    requires { ⌜ 133 ≤ length (now out) ⌝ }
+    ensures { λ n. ⌜ (take n (now (out .exit)) ≡ refusedText) × (n ≤ length (now (out .exit))) ⌝ }
+{
+    printing::put_answer(out, 0, gate::refuse(Refusal::Unreadable))
+}
+
+// Writes this answer.
 fn refuse_all() {
     let mut out = [0u8; 133];
-    let n = printing::put_answer(&mut out, 0, gate::refuse(Refusal::Unreadable));
+    let n = put_refusal(&mut out);
     io::write_all(STDOUT_FILENO, &out[..n]);
 }
 
