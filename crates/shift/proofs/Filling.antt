@@ -1,7 +1,7 @@
 -- The loop of `fill`: what it has answered so far. Assumes nothing.
 use Prim.Native.Nat.{ℕ, _+_, _≤_, _<_}
 use mathlib.Core.Path.{_≡_, refl, sym, ap, _∙_}
-use mathlib.Core.List.{List, _++_, append-assoc}
+use mathlib.Core.List.{List, _++_}
 use native.Mathlib.Omega.{arith}
 use native.Mathlib.Decide.{decLe}
 use lib.ListN.{length, take, drop, length-append}
@@ -10,8 +10,8 @@ use Rattle.fields.specs.Text.{LineEnds}
 use Rattle.printing.specs.Put.{Put, PutIn}
 use Rattle.printing.proofs.Kept.{laid-is}
 use Rattle.desk.specs.Step.{stepTable, stepText}
-use Rattle.shift.specs.Run.{Run, after, wholeRun, Answered}
-use Rattle.shift.proofs.Runs.{lineAt, next-line}
+use Rattle.shift.specs.Run.{after, wholeRun, Answered}
+use Rattle.shift.proofs.Runs.{after-both, lineAt, next-line}
 
 -- the lines before `next` are answered, and nothing is put unless a line is
 pub record Going (t s : List ℕ) (from : ℕ) (u out : List ℕ) (next at : ℕ) : Type 0 where
@@ -22,10 +22,6 @@ pub record Going (t s : List ℕ) (from : ℕ) (u out : List ℕ) (next at : ℕ
 pub setting-out : (t s out : List ℕ) (from : ℕ) → Going t s from t out from 0
 setting-out t s out from =
     record { so-far = record { is = refl; within = omega arith }; ahead = omega arith; first = λ h. refl }
-
--- two texts before a run are one
-pub after-both : (a b : List ℕ) (r : Run) → after a (after b r) ≡ after (a ++ b) r
-after-both a b r = ap (λ (w : List ℕ). record { text = w; table = r .table }) (sym (append-assoc a b (r .text)))
 
 -- a text that fits stands behind what was there
 pub put-front : {old text new : List ℕ} {at next : ℕ} → Put old at text new next → next ≤ length old

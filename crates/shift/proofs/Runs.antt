@@ -2,7 +2,7 @@
 use Prim.Native.Nat.{ℕ, zero, suc, _+_, _-_, _≤_, _<_}
 use mathlib.Core.Path.{_≡_, refl, sym, ap, _∙_}
 use mathlib.Core.Bool.{true, false}
-use mathlib.Core.List.{List, [], _∷_}
+use mathlib.Core.List.{List, [], _∷_, _++_, append-assoc}
 use native.Mathlib.Omega.{arith}
 use native.Mathlib.Decide.{decLe}
 use lib.Dec.{eqb}
@@ -12,7 +12,11 @@ use borrow.Author.Tests.{eq-eqb, ne-eqb}
 use Rattle.scope.proofs.Bools.{by-bool}
 use Rattle.fields.specs.Text.{firstLine, LineEnds}
 use Rattle.desk.specs.Step.{stepTable, stepText}
-use Rattle.shift.specs.Run.{idle, after, linesRun, wholeRun}
+use Rattle.shift.specs.Run.{Run, idle, after, linesRun, wholeRun}
+
+-- two texts before a run are one
+pub after-both : (a b : List ℕ) (r : Run) → after a (after b r) ≡ after (a ++ b) r
+after-both a b r = ap (λ (w : List ℕ). record { text = w; table = r .table }) (sym (append-assoc a b (r .text)))
 
 -- no bytes, no line
 pub no-lines : (more : ℕ) (t s : List ℕ) → length s ≤ 0 → linesRun more t s ≡ idle t

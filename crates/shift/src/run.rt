@@ -6,13 +6,14 @@ use scope::Refusal;
 ghost use mathlib.Core.Path.{_≡_};
 ghost use Prim.Native.Nat.{_+_, _≤_};
 ghost use lib.ListN.{length, take, replicate};
-ghost use Rattle.shift.specs.Run.{refusedText};
+ghost use Rattle.shift.specs.Run.{wholeRun, refusedText};
 
 // Answers each line of the input, piece by piece. The loop's invariant (proofs/Telling.antt): the pieces so far, and
-// then what the lines that are left print, are `runText input`. No contract sees the call of `write_all`: that each piece
-// is handed to it stands below, and that it reaches the descriptor is assumed.
+// then the run of the lines that are left, are the whole run. So in the end the pieces are `runText input`. No contract
+// sees the call of `write_all`: that each piece is handed to it stands below, and that it writes them is assumed.
 fn answer_all(input: &[u8], t: &mut [u32], out: &mut [u8])
     requires { ⌜ (length (now input) ≤ 65536) × (now t ≡ replicate 124 0) × (3343 ≤ length (now out)) ⌝ }
+    ensures { λ _. ⌜ now (t .exit) ≡ wholeRun (now (t .entry)) (now (input .entry)) .table ⌝ }
 {
     let mut from = 0;
     while from < input.len() {

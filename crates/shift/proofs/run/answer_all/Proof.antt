@@ -4,7 +4,7 @@ use mathlib.Core.Path.{_≡_, sym, ap}
 use native.Mathlib.Omega.{arith}
 use lib.ListN.{length}
 use lib.Seq.{length-take-le}
-use Rattle.shift.proofs.Telling.{Told, told-none, told-more}
+use Rattle.shift.proofs.Telling.{Told, told-none, told-more, told-all}
 use Rattle.shift.proofs.run.answer_all.Statement.{statement}
 use Rattle.shift.proofs.run.answer_all.Tie as tie
 
@@ -18,7 +18,7 @@ abbrev μ-loop : tie.MeasureT-loop
 loop-holds : tie.Need-loop-holds Inv-loop μ-loop
 loop-holds c =
     let p = c .before .before .before .pre in
-    (told-none _ _ (p .0) (p .1), omega arith, ap length (p .1), omega arith)
+    (told-none _ _ (p .1), omega arith, ap length (p .1), omega arith)
 
 fill-requires : tie.Need-fill-requires Inv-loop μ-loop
 fill-requires c κs = omega arith
@@ -50,7 +50,9 @@ same-length-2 : tie.Need-same-length-2 Inv-loop μ-loop
 same-length-2 c = omega arith
 
 returns : tie.Need-returns Inv-loop μ-loop
-returns c = tt
+returns c =
+    let p = c .before .before .before .before .before .pre in
+    rw (p .1) (sym (told-all (c .before .loop .inv .0) (p .0) (c .loop-test .left) .1))
 
 pub answer-all-spec : {M : Type 1} → statement M
 answer-all-spec =
