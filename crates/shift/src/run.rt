@@ -5,23 +5,32 @@ use libc::STDOUT_FILENO;
 use scope::Refusal;
 ghost use mathlib.Core.Path.{_≡_};
 ghost use Prim.Native.Nat.{_+_, _≤_};
-ghost use lib.ListN.{length, take, replicate};
-ghost use Rattle.shift.specs.Run.{wholeRun, refusedText};
+ghost use lib.ListN.{length, take, drop, replicate};
+ghost use Rattle.shift.specs.Run.{wholeRun, refusedText, runText};
 
-// Answers each line of the input, piece by piece. The loop's invariant (proofs/Telling.antt): the pieces so far, and
-// then the run of the lines that are left, are the whole run. So in the end the pieces are `runText input`. No contract
-// sees the call of `write_all`: that each piece is handed to it stands below, and that it writes them is assumed.
-fn answer_all(input: &[u8], t: &mut [u32], out: &mut [u8])
-    requires { ⌜ (length (now input) ≤ 65536) × (now t ≡ replicate 124 0) × (3343 ≤ length (now out)) ⌝ }
-    ensures { λ _. ⌜ now (t .exit) ≡ wholeRun (now (t .entry)) (now (input .entry)) .table ⌝ }
+// Writes the next piece of what `stand` prints on this input, of which `sent` bytes are written already: both are only
+// for the contract. That `write_all` puts the piece on the descriptor is assumed, since no contract can say so.
+fn hand_on(input: &[u8], sent: usize, out: &[u8], at: usize)
+    requires { ⌜ (at ≤ length (now out)) × (take at (now out) ≡ take at (drop sent (runText (now input)))) ⌝ }
+{
+    io::write_all(STDOUT_FILENO, &out[..at]);
+}
+
+// Answers each line of the input, and writes all that `stand` prints, piece after piece: the result is how many bytes.
+fn answer_all(input: &[u8], t: &mut [u32], out: &mut [u8]) -> usize
+    requires { ⌜ (length (now input) ≤ 65536) × (now t ≡ replicate 124 0) × (3343 ≤ length (now out)) × (length (now out) ≤ 16384) ⌝ }
+    ensures { λ r. ⌜ (r ≡ length (runText (now (input .entry)))) × (now (t .exit) ≡ wholeRun (now (t .entry)) (now (input .entry)) .table) ⌝ }
 {
     let mut from = 0;
+    let mut sent = 0;
     while from < input.len() {
         let filled = fill(t, input, from, out);
         let at = filled.at;
-        io::write_all(STDOUT_FILENO, &out[..at]);
+        hand_on(input, sent, out, at);
+        sent += at;
         from = filled.next;
     }
+    sent
 }
 
 // What came of reading.

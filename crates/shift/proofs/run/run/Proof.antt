@@ -40,7 +40,7 @@ slice-aggregate-answer-all-3 c = search needs
 answer-all-requires : tie.Need-answer-all-requires
 answer-all-requires c κs =
     let r = c .before .before .before .before .before .before .read-input in
-    (omega (arith, length-take (r .result .count) (r .last .0)), refl, search needs)
+    (omega (arith, length-take (r .result .count) (r .last .0)), refl, search needs, search needs)
 
 returns-3 : tie.Need-returns-3
 returns-3 c = search needs
