@@ -9,7 +9,8 @@ use Rattle.shift.proofs.run.answer_all.Tie as tie
 
 abbrev Inv-loop : tie.InvT-loop
 Inv-loop input t₀ out₀ from₀ sent₀ t out from sent =
-    Told input t from sent × (sent ≤ 16384 * from) × (length out ≡ length out₀) × (length t ≡ 124) × (length t ≡ length t₀)
+    Told input t from sent × (sent ≤ 16384 * from)
+    × (length out ≡ length out₀) × (length t ≡ 124) × (length t ≡ length t₀)
 
 abbrev μ-loop : tie.MeasureT-loop
 μ-loop input t₀ out₀ from₀ sent₀ t out from sent = length input - from
@@ -25,7 +26,9 @@ fill-requires c κs = omega arith
 hand-on-requires : tie.Need-hand-on-requires Inv-loop μ-loop
 hand-on-requires c κs =
     let a = c .before .before .before .before .before .fill .ensures .0 in
-    (omega arith, told-piece (c .before .before .before .before .before .before .before .before .before .loop .inv .0) a (c .before .before .before .before .before .before .before .before .before .before .before .before .before .pre .0))
+    let i = c .before .before .before .before .before .before .before .before .before .loop .inv in
+    let p = c .before .before .before .before .before .before .before .before .before .before .before .before .before .pre in
+    (omega arith, told-piece (i .0) a (p .0))
 
 add-sent : tie.Need-add-sent Inv-loop μ-loop
 add-sent c = omega arith
