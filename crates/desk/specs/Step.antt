@@ -1,14 +1,10 @@
--- One step of `stand`, and a whole run (document 01, "The program").
-use Prim.Native.Nat.{ℕ, zero, suc, _+_}
-use mathlib.Core.Bool.{cond}
-use mathlib.Core.List.{List, [], _++_}
-use lib.ListN.{length, drop, replicate}
-use lib.Dec.{ltb, eqb}
+-- One step of `stand` (document 01, "The program").
+use Prim.Native.Nat.{ℕ}
+use mathlib.Core.List.{List}
 use Rattle.scope.specs.Answers.{refusal}
 use Rattle.scope.specs.Calls.{Call, answerOf, tableOf}
 use Rattle.scope.specs.Calls as calls
 use Rattle.scope.specs.declared.answer.Refusal.the-variants as refusals
-use Rattle.fields.specs.Text.{firstLine}
 use Rattle.lines.specs.Form.{commandOf}
 use Rattle.lines.specs.declared.command.Command.{Command}
 use Rattle.lines.specs.declared.command.Command.the-variants.{Post, Amend, Drop, Find, Rank, Total, Worth, Fire, Tidy, List as Listing, Unreadable}
@@ -57,15 +53,3 @@ stepTable t line = tableAfter t (wishOf (commandOf line))
 
 unfoldable pub stepText : List ℕ → List ℕ → List ℕ
 stepText t line = replyText (stepTable t line) (replyOf t (wishOf (commandOf line)))
-
--- the lines of an input one after the other, at most `more` of them
-unfoldable pub linesText : ℕ → List ℕ → List ℕ → List ℕ
-linesText zero t s = []
-linesText (suc more) t s =
-    cond (eqb (length s) 0) []
-    (stepText t (firstLine s) ++ linesText more (stepTable t (firstLine s)) (drop (length (firstLine s) + 1) s))
-
--- all that `stand` prints: it starts with 15 slots, and an input over 65,536 bytes is one unreadable line
-unfoldable pub runText : List ℕ → List ℕ
-runText s =
-    cond (ltb 65536 (length s)) (answerLine (refusal refusals.Unreadable)) (linesText (length s) (replicate 124 0) s)

@@ -1,6 +1,4 @@
 // One step of `stand`: a line read, carried out on the table and answered in a lent buffer.
-pub mod run;
-
 use lines::Command;
 use scope::Answer;
 use scope::Refusal;

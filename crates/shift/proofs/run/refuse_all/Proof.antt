@@ -1,19 +1,16 @@
--- `desk::run::refuse_all` meets its contract. Assumes nothing.
+-- `shift::run::refuse_all` meets its contract. Assumes nothing.
 use mathlib.Core.Path.{sym}
 use native.Mathlib.Omega.{arith}
-use borrow.Author.Needs.{needs}
 use lib.Seq.{length-take-le}
-use Rattle.desk.proofs.run.refuse_all.Statement.{statement}
-use Rattle.desk.proofs.run.refuse_all.Tie as tie
+use borrow.Author.Needs.{needs}
+use Rattle.shift.proofs.run.refuse_all.Statement.{statement}
+use Rattle.shift.proofs.run.refuse_all.Tie as tie
 
-slice-aggregate-put-answer : tie.Need-slice-aggregate-put-answer
-slice-aggregate-put-answer c = search needs
+slice-aggregate-put-refusal : tie.Need-slice-aggregate-put-refusal
+slice-aggregate-put-refusal c = search needs
 
-refuse-requires : tie.Need-refuse-requires
-refuse-requires c κs = search needs
-
-put-answer-requires : tie.Need-put-answer-requires
-put-answer-requires c κs = search needs
+put-refusal-requires : tie.Need-put-refusal-requires
+put-refusal-requires c κs = search needs
 
 array-share-prefix-out : tie.Need-array-share-prefix-out
 array-share-prefix-out c = search needs
@@ -31,9 +28,8 @@ pub refuse-all-spec : {M : Type 1} → statement M
 refuse-all-spec =
     tie.close
     (tie.spec
-    slice-aggregate-put-answer
-    refuse-requires
-    put-answer-requires
+    slice-aggregate-put-refusal
+    put-refusal-requires
     array-share-prefix-out
     slice-aggregate-write-all
     write-all-requires

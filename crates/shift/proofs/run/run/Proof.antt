@@ -1,10 +1,11 @@
--- `desk::run::run` meets its contract. Assumes nothing.
-use mathlib.Core.Path.{sym}
+-- `shift::run::run` meets its contract. Assumes nothing.
+use mathlib.Core.Path.{refl, sym}
 use native.Mathlib.Omega.{arith}
 use borrow.Author.Needs.{needs}
+use lib.ListN.{length-take}
 use lib.Seq.{length-take-le}
-use Rattle.desk.proofs.run.run.Statement.{statement}
-use Rattle.desk.proofs.run.run.Tie as tie
+use Rattle.shift.proofs.run.run.Statement.{statement}
+use Rattle.shift.proofs.run.run.Tie as tie
 
 slice-aggregate-read-input : tie.Need-slice-aggregate-read-input
 slice-aggregate-read-input c = search needs
@@ -37,7 +38,9 @@ slice-aggregate-answer-all-3 : tie.Need-slice-aggregate-answer-all-3
 slice-aggregate-answer-all-3 c = search needs
 
 answer-all-requires : tie.Need-answer-all-requires
-answer-all-requires c κs = search needs
+answer-all-requires c κs =
+    let r = c .before .before .before .before .before .before .read-input in
+    (omega (arith, length-take (r .result .count) (r .last .0)), refl, search needs, search needs)
 
 returns-3 : tie.Need-returns-3
 returns-3 c = search needs

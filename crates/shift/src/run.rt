@@ -1,37 +1,36 @@
 // The whole program: reads standard input, and prints what each line answers.
-use crate::step;
+use crate::fill;
 use libc::STDIN_FILENO;
 use libc::STDOUT_FILENO;
 use scope::Refusal;
 ghost use mathlib.Core.Path.{_≡_};
 ghost use Prim.Native.Nat.{_+_, _≤_};
-ghost use lib.ListN.{length};
+ghost use lib.ListN.{length, take, drop, replicate};
+ghost use Rattle.shift.specs.Run.{wholeRun, refusedText, runText};
 
-// Writes the buffer out where it has no room for the longest answer: the place to go on at.
-fn room(out: &[u8], at: usize) -> usize
-    requires { ⌜ (3343 ≤ length (now out)) × (at ≤ length (now out)) ⌝ }
-    ensures { λ r. ⌜ r + 3343 ≤ length (now (out .entry)) ⌝ }
+// Writes the next piece of what `stand` prints on this input, of which `sent` bytes are written already: both are only
+// for the contract. That `write_all` puts the piece on the descriptor is assumed, since no contract can say so.
+fn hand_on(input: &[u8], sent: usize, out: &[u8], at: usize)
+    requires { ⌜ (at ≤ length (now out)) × (take at (now out) ≡ take at (drop sent (runText (now input)))) ⌝ }
 {
-    if out.len() - at < 3343 {
-        io::write_all(STDOUT_FILENO, &out[..at]);
-        return 0;
-    }
-    at
+    io::write_all(STDOUT_FILENO, &out[..at]);
 }
 
-// Answers each line of the input.
-fn answer_all(input: &[u8], t: &mut [u32], out: &mut [u8])
-    requires { ⌜ (3343 ≤ length (now out)) × (length (now t) ≡ 124) ⌝ }
+// Answers each line of the input, and writes all that `stand` prints, piece after piece: the result is how many bytes.
+fn answer_all(input: &[u8], t: &mut [u32], out: &mut [u8]) -> usize
+    requires { ⌜ (length (now input) ≤ 65536) × (now t ≡ replicate 124 0) × (3343 ≤ length (now out)) × (length (now out) ≤ 16384) ⌝ }
+    ensures { λ r. ⌜ (r ≡ length (runText (now (input .entry)))) × (now (t .exit) ≡ wholeRun (now (t .entry)) (now (input .entry)) .table) ⌝ }
 {
-    let mut at = 0;
     let mut from = 0;
+    let mut sent = 0;
     while from < input.len() {
-        let end = fields::line_end(input, from);
-        let p = room(out, at);
-        at = step(t, &input[from..end], out, p);
-        from = end + 1;
+        let filled = fill(t, input, from, out);
+        let at = filled.at;
+        hand_on(input, sent, out, at);
+        sent += at;
+        from = filled.next;
     }
-    io::write_all(STDOUT_FILENO, &out[..at]);
+    sent
 }
 
 // What came of reading.
@@ -57,10 +56,11 @@ fn read_once(buf: &mut [u8]) -> Got
     }
 }
 
-// Reads once into buf from n on.
+// Reads once into buf from n on, and keeps what stands before.
 fn read_at(buf: &mut [u8], n: usize) -> Got
     requires { ⌜ n ≤ length (now buf) ⌝ }
     ensures { λ r. ⌜ n + r .count ≤ length (now (buf .entry)) ⌝ }
+    ensures { λ _. ⌜ take n (now (buf .exit)) ≡ take n (now (buf .entry)) ⌝ }
 {
     read_once(&mut buf[n..])
 }
@@ -86,10 +86,18 @@ fn read_input(buf: &mut [u8]) -> Got
     }
 }
 
-// An input that is too long or cannot be read is one unreadable line.
+// Puts the answer to an input that is too long or cannot be read: one unreadable line. The result is how long it is.
+fn put_refusal(out: &mut [u8]) -> usize
+    requires { ⌜ 133 ≤ length (now out) ⌝ }
+    ensures { λ n. ⌜ (take n (now (out .exit)) ≡ refusedText) × (n ≤ length (now (out .exit))) ⌝ }
+{
+    printing::put_answer(out, 0, gate::refuse(Refusal::Unreadable))
+}
+
+// Writes this answer.
 fn refuse_all() {
     let mut out = [0u8; 133];
-    let n = printing::put_answer(&mut out, 0, gate::refuse(Refusal::Unreadable));
+    let n = put_refusal(&mut out);
     io::write_all(STDOUT_FILENO, &out[..n]);
 }
 

@@ -1,0 +1,2 @@
+-- The definitions that the contracts of `shift` cite.
+pub mod Run
