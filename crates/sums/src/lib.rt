@@ -39,19 +39,28 @@ pub fn over(a: usize, b: usize) -> usize
     if a < b { b + 1 } else { a + 1 }
 }
 
-// The true height of what hangs at link x, where at most `more` slots do.
-pub fn height_under(t: &[u32], more: usize, x: usize) -> usize
-    requires { ⌜ Hangs (now t) more x ⌝ }
+// The true height of slot x and what hangs below it, where that is at most `more` slots.
+pub fn height_at(t: &[u32], more: usize, x: usize) -> usize
+    requires { ⌜ (1 ≤ x) × Hangs (now t) more x ⌝ }
     ensures { λ r. ⌜ Says (now (t .entry)) x trueHeight r ⌝ }
 {
-    if x == 0 {
-        return 0;
-    }
     let f = fork_at(t, x);
     let less = more - 1;
     let a = height_under(t, less, f.left);
     let b = height_under(t, less, f.right);
     over(a, b)
+}
+
+// The same at a link, which may be empty.
+pub fn height_under(t: &[u32], more: usize, x: usize) -> usize
+    requires { ⌜ Hangs (now t) more x ⌝ }
+    ensures { λ r. ⌜ Says (now (t .entry)) x trueHeight r ⌝ }
+{
+    if x == 0 {
+        0
+    } else {
+        height_at(t, more, x)
+    }
 }
 
 // The same over a sound table.
@@ -90,14 +99,11 @@ pub fn add3(a: u64, b: u64, own: u64) -> u64
     a + b + own
 }
 
-// The pieces of all records at link x with a key of at most `key`.
-pub fn total_under(t: &[u32], more: usize, x: usize, key: u32) -> u64
-    requires { ⌜ Hangs (now t) more x ⌝ }
+// The pieces of all records with a key of at most `key`, in slot x and what hangs below it.
+pub fn total_at(t: &[u32], more: usize, x: usize, key: u32) -> u64
+    requires { ⌜ (1 ≤ x) × Hangs (now t) more x ⌝ }
     ensures { λ r. ⌜ Says (now (t .entry)) x (totalOf key) r ⌝ }
 {
-    if x == 0 {
-        return 0;
-    }
     let f = fork_at(t, x);
     let less = more - 1;
     let slot = f.slot;
@@ -105,6 +111,18 @@ pub fn total_under(t: &[u32], more: usize, x: usize, key: u32) -> u64
     let a = total_under(t, less, f.left, key);
     let b = total_under(t, less, f.right, key);
     add3(a, b, own)
+}
+
+// The same at a link, which may be empty.
+pub fn total_under(t: &[u32], more: usize, x: usize, key: u32) -> u64
+    requires { ⌜ Hangs (now t) more x ⌝ }
+    ensures { λ r. ⌜ Says (now (t .entry)) x (totalOf key) r ⌝ }
+{
+    if x == 0 {
+        0
+    } else {
+        total_at(t, more, x, key)
+    }
 }
 
 // The same over a sound table.
