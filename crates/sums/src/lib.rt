@@ -56,11 +56,7 @@ pub fn height_under(t: &[u32], more: usize, x: usize) -> usize
     requires { ⌜ Hangs (now t) more x ⌝ }
     ensures { λ r. ⌜ Says (now (t .entry)) x trueHeight r ⌝ }
 {
-    if x == 0 {
-        0
-    } else {
-        height_at(t, more, x)
-    }
+    if x == 0 { 0 } else { height_at(t, more, x) }
 }
 
 // The same over a sound table.
@@ -118,11 +114,7 @@ pub fn total_under(t: &[u32], more: usize, x: usize, key: u32) -> u64
     requires { ⌜ Hangs (now t) more x ⌝ }
     ensures { λ r. ⌜ Says (now (t .entry)) x (totalOf key) r ⌝ }
 {
-    if x == 0 {
-        0
-    } else {
-        total_at(t, more, x, key)
-    }
+    if x == 0 { 0 } else { total_at(t, more, x, key) }
 }
 
 // The same over a sound table.

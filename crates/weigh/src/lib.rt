@@ -76,20 +76,29 @@ pub fn join(s: Slot, n: u64, above: u64, a: Weighed, b: Weighed) -> Weighed
     }
 }
 
-// What hangs at link x weighs, of n slots in all, with a register above it.
-pub fn weigh_under(t: &[u32], more: usize, x: usize, n: u64, above: u64) -> Weighed
-    requires { ⌜ Hangs (now t) more x × Bearable more n above ⌝ }
+// What slot x and what hangs below it weigh, of n slots in all, with a register above it.
+pub fn weigh_at(t: &[u32], more: usize, x: usize, n: u64, above: u64) -> Weighed
+    requires { ⌜ (1 ≤ x) × Hangs (now t) more x × Bearable more n above ⌝ }
     ensures { λ r. ⌜ Says (now (t .entry)) x (weighed n above) r ⌝ }
 {
-    if x == 0 {
-        return Weighed { size: 0, weight: 0 };
-    }
     let f = sums::fork_at(t, x);
     let less = more - 1;
     let slot = f.slot;
     let a = weigh_under(t, less, f.left, n, words::long(slot.lefth));
     let b = weigh_under(t, less, f.right, n, words::long(slot.righth));
     join(slot, n, above, a, b)
+}
+
+// The same at a link, which may be empty.
+pub fn weigh_under(t: &[u32], more: usize, x: usize, n: u64, above: u64) -> Weighed
+    requires { ⌜ Hangs (now t) more x × Bearable more n above ⌝ }
+    ensures { λ r. ⌜ Says (now (t .entry)) x (weighed n above) r ⌝ }
+{
+    if x == 0 {
+        Weighed { size: 0, weight: 0 }
+    } else {
+        weigh_at(t, more, x, n, above)
+    }
 }
 
 // The height that the registers at link x show, under which it has no carry.
