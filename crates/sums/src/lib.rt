@@ -12,7 +12,7 @@ ghost use Rattle.scope.specs.Sound.{treeIn};
 ghost use Rattle.scope.specs.Sums.{rankOf, ranked, rankAnswer, totalOf, totalAnswer};
 ghost use Rattle.words.specs.Ready.{Headed};
 ghost use Rattle.sound.specs.Whole.{Whole};
-ghost use Rattle.sums.specs.Hangs.{Hangs, Says, forkAt, heightAnswer, counted, after, Few};
+ghost use Rattle.sums.specs.Hangs.{Hangs, Says, forkAt, heightAnswer, counted, after, Few, rankIn};
 
 // A slot with its two sons.
 pub struct Fork {
@@ -135,36 +135,51 @@ pub fn total(t: &[u32], key: u32) -> Answer
     }
 }
 
+// Above every count of slots. A walk for a rank says so many slots, or this and the slot that it found.
+pub const FOUND: usize = 8192;
+
 // What a rank on the right side is over the whole, where `seen` slots stand before that side.
-pub fn after(seen: usize, found: Rank) -> Rank
-    requires { ⌜ (seen ≤ 4095) × Few found ⌝ }
-    ensures { λ r. ⌜ r ≡ after seen found ⌝ }
+pub fn after(seen: usize, found: usize) -> usize
+    requires { ⌜ (seen ≤ 4095) × Few (rankIn found) ⌝ }
+    ensures { λ r. ⌜ rankIn r ≡ after seen (rankIn found) ⌝ }
 {
-    match found {
-        Rank::At(k) => Rank::At(k),
-        Rank::Past(n) => Rank::Past(seen + n),
-    }
+    if found < FOUND { seen + found } else { found }
 }
 
-// The slot of the r-th smallest key at link x, or how many slots hang there.
-pub fn rank_under(t: &[u32], more: usize, x: usize, r: usize) -> Rank
-    requires { ⌜ (1 ≤ r) × Hangs (now t) more x ⌝ }
-    ensures { λ a. ⌜ Says (now (t .entry)) x (rankOf r) a ⌝ }
+// The slot of the r-th smallest key among slot x and what hangs below it, or how many slots that is.
+pub fn rank_at(t: &[u32], more: usize, x: usize, r: usize) -> usize
+    requires { ⌜ (1 ≤ x) × (1 ≤ r) × Hangs (now t) more x ⌝ }
+    ensures { λ a. ⌜ Says (now (t .entry)) x (rankOf r) (rankIn a) ⌝ }
 {
-    if x == 0 {
-        return Rank::Past(0);
-    }
     let f = fork_at(t, x);
     let less = more - 1;
-    match rank_under(t, less, f.left, r) {
-        Rank::At(k) => Rank::At(k),
-        Rank::Past(n) => {
-            let seen = n + 1;
-            if seen == r {
-                return Rank::At(x);
-            }
-            after(seen, rank_under(t, less, f.right, r - seen))
-        }
+    let n = rank_under(t, less, f.left, r);
+    if FOUND <= n {
+        return n;
+    }
+    let seen = n + 1;
+    if seen == r {
+        return FOUND + x;
+    }
+    after(seen, rank_under(t, less, f.right, r - seen))
+}
+
+// The same at a link, which may be empty.
+pub fn rank_under(t: &[u32], more: usize, x: usize, r: usize) -> usize
+    requires { ⌜ (1 ≤ r) × Hangs (now t) more x ⌝ }
+    ensures { λ a. ⌜ Says (now (t .entry)) x (rankOf r) (rankIn a) ⌝ }
+{
+    if x == 0 { 0 } else { rank_at(t, more, x, r) }
+}
+
+// What such a number says.
+pub fn rank_said(n: usize) -> Rank
+    ensures { λ a. ⌜ a ≡ rankIn n ⌝ }
+{
+    if n < FOUND {
+        Rank::Past(n)
+    } else {
+        Rank::At(n - FOUND)
     }
 }
 
@@ -173,7 +188,7 @@ pub fn rank_in(t: &[u32], c: usize, r: usize) -> Rank
     requires { ⌜ (1 ≤ r) × Whole (now t) c ⌝ }
     ensures { λ a. ⌜ a ≡ rankOf r (treeIn (now (t .entry)) c) ⌝ }
 {
-    rank_under(t, words::records(t), words::root(t), r)
+    rank_said(rank_under(t, words::records(t), words::root(t), r))
 }
 
 // What rank answers.
