@@ -4,7 +4,8 @@ use native.Mathlib.Omega.{arith}
 use borrow.Fn.Kinds.{In}
 use borrow.Fn.PlainCycle.{Measures, is, falls, and}
 use Rattle.sums.proofs.Down.{Forked, in-reach, forked}
-use Rattle.sums.proofs.Ranks.{past-in, at-in, found-in, rank-leaf, rank-left, seen-few, rank-here, right-few, rank-after}
+use Rattle.sums.proofs.Ranks.{past-in, at-in, found-in, rank-leaf, rank-left, seen-few, rank-here}
+use Rattle.sums.proofs.Ranks.{right-few, rank-after}
 use Rattle.sums.proofs.rank_at.Reads as at
 use Rattle.sums.proofs.rank_at.Kinds as at-kinds
 use Rattle.sums.proofs.+rank_at+rank_under.Lts-rank_at as at-lts
@@ -82,8 +83,9 @@ pub +rank-at+rank-under-spec : {M : Type 1} → statement M
     (λ c.
     let v = c .before .before in
     let past = past-in (c .before .if1 .left) in
-    rw (found-in (v .before .before .before .args .x))
-    (rank-here (sides t (v .before)) (v .before .before .before .pre .1 .1) (v .rank-under .ensures) past (c .if2 .taken)))
+    let start = v .before .before .before in
+    rw (found-in (start .args .x))
+    (rank-here (sides t (v .before)) (start .pre .1 .1) (v .rank-under .ensures) past (c .if2 .taken)))
     -- sub-rank-under
     (λ c.
     let v = c .before .before in

@@ -91,7 +91,8 @@ pub +weigh-at+weigh-under-spec : {M : Type 1} → statement M
     let start = c .before .before .before .before .before .before .before in
     let d = sides t (c .before .before .before .before .before) in
     laden d (start .pre .1 .2) (c .before .before .weigh-under .ensures) (c .weigh-under2 .ensures)
-    (omega (arith, registers d, c .before .before .before .long .ensures)) (omega (arith, registers d, c .before .long2 .ensures)))
+    (omega (arith, registers d, c .before .before .before .long .ensures))
+    (omega (arith, registers d, c .before .long2 .ensures)))
     -- returns
     (λ c.
     let start = c .before .before .before .before .before .before .before .before in
