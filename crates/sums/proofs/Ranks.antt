@@ -1,22 +1,35 @@
 -- The rank at a slot, from the ranks on its two sides. Assumes nothing.
 use Prim.Native.Nat.{ℕ, _+_, _-_, _≤_, _<_}
-use mathlib.Core.Path.{_≡_, sym, ap, _∙_}
+use mathlib.Core.Path.{_≡_, refl, sym, ap, _∙_}
 use mathlib.Core.List.{List, [], _∷_, _++_}
 use native.Mathlib.Omega.{arith}
+use borrow.Author.Tests.{lt-ltb, le-ltb}
 use Rattle.scope.specs.Tree.{inOrder}
 use Rattle.scope.specs.Sound.{batchAt}
 use Rattle.scope.specs.Sums.{slotsInOrder, pick, rankOf}
 use Rattle.scope.specs.declared.outcome.Rank.{Rank}
 use Rattle.scope.specs.declared.outcome.Rank.the-variants.{At, Past}
 use Rattle.sums.specs.declared.Fork.{Fork}
-use Rattle.sums.specs.Hangs.{Says, after, Few}
+use Rattle.sums.specs.Hangs.{Says, after, Few, rankIn}
 use Rattle.sums.proofs.Down.{Forked, said-at, says-leaf, says-fork}
 use Rattle.sums.proofs.Pick.{order-node, order-size, pick-past, past-is, pick-few, pick-left, pick-here, pick-after}
 
+-- what a number below 8,192 says, and one from there on
+pub past-in : {n : ℕ} → n < 8192 → rankIn n ≡ Past n
+unfolding rankIn
+past-in {n} h = rw (lt-ltb n 8192 h) refl
+
+pub at-in : {n : ℕ} → 8192 ≤ n → rankIn n ≡ At (n - 8192)
+unfolding rankIn
+at-in {n} h = rw (le-ltb n 8192 h) refl
+
+pub found-in : (x : ℕ) → rankIn (8192 + x) ≡ At x
+found-in x = at-in (omega arith) ∙ ap At (omega arith)
+
 -- no slot hangs at the empty link
-pub rank-leaf : (t : List ℕ) (x r : ℕ) → 1 ≤ r → x ≡ 0 → Says t x (rankOf r) (Past 0)
+pub rank-leaf : (t : List ℕ) (x r : ℕ) → 1 ≤ r → x ≡ 0 → Says t x (rankOf r) (rankIn 0)
 unfolding rankOf inOrder
-rank-leaf t x r pos e c T p = sym (pick-past r [] pos) ∙ says-leaf t x (rankOf r) e c T p
+rank-leaf t x r pos e c T p = past-in (omega arith) ∙ sym (pick-past r [] pos) ∙ says-leaf t x (rankOf r) e c T p
 
 -- on the right side there are few slots
 pub right-few : {t : List ℕ} {more x : ℕ} {f : Fork} (d : Forked t more x f) (r : ℕ) {b : Rank}

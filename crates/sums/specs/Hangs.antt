@@ -1,9 +1,9 @@
 -- A tree that hangs at a link, and what a walk of it says. Assumes nothing: these are statements.
-use Prim.Native.Nat.{ℕ, _+_, _≤_}
+use Prim.Native.Nat.{ℕ, _+_, _-_, _≤_}
 use mathlib.Core.Path.{_≡_}
 use mathlib.Core.Bool.{true, cond}
 use mathlib.Core.List.{List}
-use lib.Dec.{leb}
+use lib.Dec.{leb, ltb}
 use Rattle.scope.specs.Table.{word, changeWord, slotAt}
 use Rattle.scope.specs.Tree.{Tree, size, trueHeight}
 use Rattle.scope.specs.Sound.{Spells, treeIn}
@@ -52,3 +52,7 @@ after seen (Past n) = Past (seen + n)
 abbrev pub Few : Rank → Type 0
 Few (At k) = Unit {0}
 Few (Past n) = n ≤ 4095
+
+-- a rank as one number: so many slots, or 8,192 and the slot that was found
+unfoldable pub rankIn : ℕ → Rank
+rankIn n = cond (ltb n 8192) (Past n) (At (n - 8192))

@@ -12,7 +12,7 @@ ghost use Rattle.scope.specs.Sound.{treeIn};
 ghost use Rattle.scope.specs.Sums.{rankOf, ranked, rankAnswer, totalOf, totalAnswer};
 ghost use Rattle.words.specs.Ready.{Headed};
 ghost use Rattle.sound.specs.Whole.{Whole};
-ghost use Rattle.sums.specs.Hangs.{Hangs, Says, forkAt, heightAnswer, counted, after, Few};
+ghost use Rattle.sums.specs.Hangs.{Hangs, Says, forkAt, heightAnswer, counted, after, Few, rankIn};
 
 // A slot with its two sons.
 pub struct Fork {
@@ -39,19 +39,24 @@ pub fn over(a: usize, b: usize) -> usize
     if a < b { b + 1 } else { a + 1 }
 }
 
-// The true height of what hangs at link x, where at most `more` slots do.
-pub fn height_under(t: &[u32], more: usize, x: usize) -> usize
-    requires { ⌜ Hangs (now t) more x ⌝ }
+// The true height of slot x and what hangs below it, where that is at most `more` slots.
+pub fn height_at(t: &[u32], more: usize, x: usize) -> usize
+    requires { ⌜ (1 ≤ x) × Hangs (now t) more x ⌝ }
     ensures { λ r. ⌜ Says (now (t .entry)) x trueHeight r ⌝ }
 {
-    if x == 0 {
-        return 0;
-    }
     let f = fork_at(t, x);
     let less = more - 1;
     let a = height_under(t, less, f.left);
     let b = height_under(t, less, f.right);
     over(a, b)
+}
+
+// The same at a link, which may be empty.
+pub fn height_under(t: &[u32], more: usize, x: usize) -> usize
+    requires { ⌜ Hangs (now t) more x ⌝ }
+    ensures { λ r. ⌜ Says (now (t .entry)) x trueHeight r ⌝ }
+{
+    if x == 0 { 0 } else { height_at(t, more, x) }
 }
 
 // The same over a sound table.
@@ -90,14 +95,11 @@ pub fn add3(a: u64, b: u64, own: u64) -> u64
     a + b + own
 }
 
-// The pieces of all records at link x with a key of at most `key`.
-pub fn total_under(t: &[u32], more: usize, x: usize, key: u32) -> u64
-    requires { ⌜ Hangs (now t) more x ⌝ }
+// The pieces of all records with a key of at most `key`, in slot x and what hangs below it.
+pub fn total_at(t: &[u32], more: usize, x: usize, key: u32) -> u64
+    requires { ⌜ (1 ≤ x) × Hangs (now t) more x ⌝ }
     ensures { λ r. ⌜ Says (now (t .entry)) x (totalOf key) r ⌝ }
 {
-    if x == 0 {
-        return 0;
-    }
     let f = fork_at(t, x);
     let less = more - 1;
     let slot = f.slot;
@@ -105,6 +107,14 @@ pub fn total_under(t: &[u32], more: usize, x: usize, key: u32) -> u64
     let a = total_under(t, less, f.left, key);
     let b = total_under(t, less, f.right, key);
     add3(a, b, own)
+}
+
+// The same at a link, which may be empty.
+pub fn total_under(t: &[u32], more: usize, x: usize, key: u32) -> u64
+    requires { ⌜ Hangs (now t) more x ⌝ }
+    ensures { λ r. ⌜ Says (now (t .entry)) x (totalOf key) r ⌝ }
+{
+    if x == 0 { 0 } else { total_at(t, more, x, key) }
 }
 
 // The same over a sound table.
@@ -125,36 +135,51 @@ pub fn total(t: &[u32], key: u32) -> Answer
     }
 }
 
+// Above every count of slots. A walk for a rank says so many slots, or this and the slot that it found.
+pub const FOUND: usize = 8192;
+
 // What a rank on the right side is over the whole, where `seen` slots stand before that side.
-pub fn after(seen: usize, found: Rank) -> Rank
-    requires { ⌜ (seen ≤ 4095) × Few found ⌝ }
-    ensures { λ r. ⌜ r ≡ after seen found ⌝ }
+pub fn after(seen: usize, found: usize) -> usize
+    requires { ⌜ (seen ≤ 4095) × Few (rankIn found) ⌝ }
+    ensures { λ r. ⌜ rankIn r ≡ after seen (rankIn found) ⌝ }
 {
-    match found {
-        Rank::At(k) => Rank::At(k),
-        Rank::Past(n) => Rank::Past(seen + n),
-    }
+    if found < FOUND { seen + found } else { found }
 }
 
-// The slot of the r-th smallest key at link x, or how many slots hang there.
-pub fn rank_under(t: &[u32], more: usize, x: usize, r: usize) -> Rank
-    requires { ⌜ (1 ≤ r) × Hangs (now t) more x ⌝ }
-    ensures { λ a. ⌜ Says (now (t .entry)) x (rankOf r) a ⌝ }
+// The slot of the r-th smallest key among slot x and what hangs below it, or how many slots that is.
+pub fn rank_at(t: &[u32], more: usize, x: usize, r: usize) -> usize
+    requires { ⌜ (1 ≤ x) × (1 ≤ r) × Hangs (now t) more x ⌝ }
+    ensures { λ a. ⌜ Says (now (t .entry)) x (rankOf r) (rankIn a) ⌝ }
 {
-    if x == 0 {
-        return Rank::Past(0);
-    }
     let f = fork_at(t, x);
     let less = more - 1;
-    match rank_under(t, less, f.left, r) {
-        Rank::At(k) => Rank::At(k),
-        Rank::Past(n) => {
-            let seen = n + 1;
-            if seen == r {
-                return Rank::At(x);
-            }
-            after(seen, rank_under(t, less, f.right, r - seen))
-        }
+    let n = rank_under(t, less, f.left, r);
+    if FOUND <= n {
+        return n;
+    }
+    let seen = n + 1;
+    if seen == r {
+        return FOUND + x;
+    }
+    after(seen, rank_under(t, less, f.right, r - seen))
+}
+
+// The same at a link, which may be empty.
+pub fn rank_under(t: &[u32], more: usize, x: usize, r: usize) -> usize
+    requires { ⌜ (1 ≤ r) × Hangs (now t) more x ⌝ }
+    ensures { λ a. ⌜ Says (now (t .entry)) x (rankOf r) (rankIn a) ⌝ }
+{
+    if x == 0 { 0 } else { rank_at(t, more, x, r) }
+}
+
+// What such a number says.
+pub fn rank_said(n: usize) -> Rank
+    ensures { λ a. ⌜ a ≡ rankIn n ⌝ }
+{
+    if n < FOUND {
+        Rank::Past(n)
+    } else {
+        Rank::At(n - FOUND)
     }
 }
 
@@ -163,7 +188,7 @@ pub fn rank_in(t: &[u32], c: usize, r: usize) -> Rank
     requires { ⌜ (1 ≤ r) × Whole (now t) c ⌝ }
     ensures { λ a. ⌜ a ≡ rankOf r (treeIn (now (t .entry)) c) ⌝ }
 {
-    rank_under(t, words::records(t), words::root(t), r)
+    rank_said(rank_under(t, words::records(t), words::root(t), r))
 }
 
 // What rank answers.

@@ -1,11 +1,10 @@
 -- What a tree weighs, with n nodes in all and a register above it. Assumes nothing: these are definitions.
-use Prim.Native.Nat.{ℕ, _+_, _-_, _*_, _≤_, _<_}
+use Prim.Native.Nat.{ℕ, _+_, _-_, _*_, _%_, _≤_}
 use mathlib.Core.List.{List}
 use Rattle.scope.specs.Tree.{Tree, leaf, node, size, over}
 use Rattle.scope.specs.Worth.{gap, negOf, posOf, NEG, POS, BAL, RBAL}
 use Rattle.scope.specs.declared.slot.Slot.{Slot}
 use Rattle.sums.specs.Hangs.{Hangs}
-use Rattle.weigh.specs.declared.Weighed.{Weighed}
 
 -- the four sums, the carry of the tree's own top counted too
 unfoldable pub weightOf : ℕ → ℕ → Tree → ℕ
@@ -16,15 +15,14 @@ unfoldable pub ownWeight : ℕ → ℕ → ℕ → ℕ → ℕ
 ownWeight a b out above =
     6 * (out * (over a b - above) + (above - over a b)) + (2 * gap a b + (gap a b - 1))
 
-unfoldable pub weighed : ℕ → ℕ → Tree → Weighed
-weighed n above T = record { size = size T; weight = weightOf n above T }
+-- weight and size as one number
+unfoldable pub loadOf : ℕ → ℕ → Tree → ℕ
+loadOf n above T = 4096 * weightOf n above T + size T
 
 -- a slot over its two sides
-abbrev pub joined : Slot → ℕ → ℕ → Weighed → Weighed → Weighed
-joined s n above a b = record {
-  size = a .size + b .size + 1;
-  weight = a .weight + b .weight + ownWeight (s .lefth) (s .righth) (n - (a .size + b .size + 1)) above;
-}
+abbrev pub joined : Slot → ℕ → ℕ → ℕ → ℕ → ℕ
+joined s n above a b =
+    4096 * ownWeight (s .lefth) (s .righth) (n - (a + b + 1) % 4096) above + (a + b + 1)
 
 -- the height that the root's registers show, under which the root has no carry
 unfoldable pub topOf : Tree → ℕ
@@ -39,10 +37,10 @@ pub record Light (s : Slot) (out above : ℕ) : Type 0 where
   pub over-it : above ≤ 65536
 
 -- so are those of two sides, and what they weigh
-pub record Laden (s : Slot) (n above : ℕ) (a b : Weighed) : Type 0 where
+pub record Laden (s : Slot) (n above a b : ℕ) : Type 0 where
   pub light : Light s n above
-  pub few : a .size + b .size < n
-  pub sum : a .weight + b .weight ≤ 9000000000000
+  pub few : (a + b + 1) % 4096 ≤ n
+  pub sum : a + b ≤ 40000000000000000
 
 -- a walk of at most `more` of n slots, under a register in range
 pub record Bearable (more n above : ℕ) : Type 0 where

@@ -9,13 +9,10 @@ ghost use Rattle.scope.specs.Sound.{treeIn};
 ghost use Rattle.scope.specs.Worth.{gap, worthOf, worthAnswer};
 ghost use Rattle.sound.specs.Whole.{Whole};
 ghost use Rattle.sums.specs.Hangs.{Hangs, Says};
-ghost use Rattle.weigh.specs.Weight.{ownWeight, weighed, joined, topOf, Light, Laden, Bearable, Rooted};
+ghost use Rattle.weigh.specs.Weight.{ownWeight, loadOf, joined, topOf, Light, Laden, Bearable, Rooted};
 
-// How many slots hang at a link, and what they weigh.
-pub struct Weighed {
-    pub size: u64,
-    pub weight: u64,
-}
+// What hangs at a link, as one number: its weight in units, and how many slots it is, which is less than a unit.
+pub const UNIT: u64 = 4096;
 
 // How far two heights are apart.
 pub fn gap(a: u64, b: u64) -> u64
@@ -64,32 +61,38 @@ pub fn own_weight(s: Slot, out: u64, above: u64) -> u64
 }
 
 // A slot over its two sides, of n slots in all.
-pub fn join(s: Slot, n: u64, above: u64, a: Weighed, b: Weighed) -> Weighed
+pub fn join(s: Slot, n: u64, above: u64, a: u64, b: u64) -> u64
     requires { ⌜ Laden s n above a b ⌝ }
     ensures { λ r. ⌜ r ≡ joined s n above a b ⌝ }
 {
-    let size = a.size + b.size + 1;
-    let own = own_weight(s, n - size, above);
-    Weighed {
-        size,
-        weight: sums::add3(a.weight, b.weight, own),
-    }
+    let both = a + b + 1;
+    let own = own_weight(s, n - both % UNIT, above);
+    UNIT * own + both
 }
 
-// What hangs at link x weighs, of n slots in all, with a register above it.
-pub fn weigh_under(t: &[u32], more: usize, x: usize, n: u64, above: u64) -> Weighed
-    requires { ⌜ Hangs (now t) more x × Bearable more n above ⌝ }
-    ensures { λ r. ⌜ Says (now (t .entry)) x (weighed n above) r ⌝ }
+// What slot x and what hangs below it weigh, of n slots in all, with a register above it.
+pub fn weigh_at(t: &[u32], more: usize, x: usize, n: u64, above: u64) -> u64
+    requires { ⌜ (1 ≤ x) × Hangs (now t) more x × Bearable more n above ⌝ }
+    ensures { λ r. ⌜ Says (now (t .entry)) x (loadOf n above) r ⌝ }
 {
-    if x == 0 {
-        return Weighed { size: 0, weight: 0 };
-    }
     let f = sums::fork_at(t, x);
     let less = more - 1;
     let slot = f.slot;
     let a = weigh_under(t, less, f.left, n, words::long(slot.lefth));
     let b = weigh_under(t, less, f.right, n, words::long(slot.righth));
     join(slot, n, above, a, b)
+}
+
+// The same at a link, which may be empty.
+pub fn weigh_under(t: &[u32], more: usize, x: usize, n: u64, above: u64) -> u64
+    requires { ⌜ Hangs (now t) more x × Bearable more n above ⌝ }
+    ensures { λ r. ⌜ Says (now (t .entry)) x (loadOf n above) r ⌝ }
+{
+    if x == 0 {
+        0
+    } else {
+        weigh_at(t, more, x, n, above)
+    }
 }
 
 // The height that the registers at link x show, under which it has no carry.
@@ -112,7 +115,7 @@ pub fn worth_in(t: &[u32], c: usize) -> u64
     let n = words::records(t);
     let root = words::root(t);
     let all = weigh_under(t, n, root, words::size(n), top(t, root));
-    all.weight
+    all / UNIT
 }
 
 // worth: how far the registers are from those of a balanced tree.

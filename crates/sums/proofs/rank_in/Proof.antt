@@ -1,4 +1,5 @@
 -- `sums::rank_in` meets its contract. Assumes nothing.
+use mathlib.Core.Path.{_∙_}
 use Rattle.scope.specs.Sums.{rankOf}
 use Rattle.sums.proofs.Down.{rooted, said}
 use borrow.Author.Needs.{needs}
@@ -18,10 +19,14 @@ rank-under-requires c κs = (
       (c .before .records .ensures),
 )
 
+rank-said-requires : tie.Need-rank-said-requires
+rank-said-requires c κs = search needs
+
 returns : tie.Need-returns
 returns c =
-    said (c .before .before .before .before .pre .1) (c .before .root .ensures) (rankOf
-    (c .before .before .before .before .args .r)) (c .rank-under .ensures)
+    let start = c .before .before .before .before .before in
+    c .rank-said .ensures
+    ∙ said (start .pre .1) (c .before .before .root .ensures) (rankOf (start .args .r)) (c .before .rank-under .ensures)
 
 pub rank-in-spec : {M : Type 1} → statement M
-rank-in-spec = tie.close (tie.spec records-requires root-requires rank-under-requires returns)
+rank-in-spec = tie.close (tie.spec records-requires root-requires rank-under-requires rank-said-requires returns)

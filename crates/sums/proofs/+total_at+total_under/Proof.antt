@@ -1,0 +1,104 @@
+-- `sums::total_at` and `sums::total_under` meet their contracts. Assumes nothing.
+use Prim.Native.Nat.{ℕ, _+_, _*_, _<_}
+use native.Mathlib.Omega.{arith}
+use borrow.Author.Needs.{needs}
+use borrow.Fn.Kinds.{In}
+use borrow.Fn.PlainCycle.{Measures, is, falls, and}
+use Rattle.scope.specs.Sums.{totalOf}
+use Rattle.sums.proofs.Down.{Forked, in-reach, forked, says-leaf}
+use Rattle.sums.proofs.Walks.{total-few, total-here}
+use Rattle.sums.proofs.total_at.Reads as at
+use Rattle.sums.proofs.total_at.Kinds as at-kinds
+use Rattle.sums.proofs.+total_at+total_under.Lts-total_at as at-lts
+use Rattle.sums.proofs.total_under.Reads as under
+use Rattle.sums.proofs.total_under.Kinds as under-kinds
+use Rattle.sums.proofs.+total_at+total_under.Lts-total_under as under-lts
+use Rattle.sums.proofs.add3.Reads as add3-reads
+use Rattle.sums.proofs.counted.Reads as counted-reads
+use Rattle.sums.proofs.fork_at.Reads as fork-at-reads
+use Rattle.sums.proofs.+total_at+total_under.{statement}
+use Rattle.sums.proofs.+total_at+total_under.Tie.{close}
+
+-- the slots that may still be reached are fewer at each slot, and a link comes before its slot
+abbrev μ-at : Measures 1 at-kinds.ps ℕ
+μ-at κs a = 2 * (a .1 .0)
+
+abbrev μ-under : Measures 1 under-kinds.ps ℕ
+μ-under κs a = 2 * (a .1 .0) + 1
+
+abbrev at-now : ℕ → In 1 at-kinds.ps
+at-now t = and 1 at-kinds.ps (is 1 at-kinds.ps μ-at t) at.Pre
+
+abbrev at-below : ℕ → In 1 at-kinds.ps
+at-below t = and 1 at-kinds.ps (falls 1 at-kinds.ps _<_ μ-at t) at.Pre
+
+abbrev under-now : ℕ → In 1 under-kinds.ps
+under-now t = and 1 under-kinds.ps (is 1 under-kinds.ps μ-under t) under.Pre
+
+abbrev under-below : ℕ → In 1 under-kinds.ps
+under-below t = and 1 under-kinds.ps (falls 1 under-kinds.ps _<_ μ-under t) under.Pre
+
+-- the slot that is entered, with what hangs below it
+sides : (t : ℕ) (c : at-lts.After-fork-at (
+  fork-at-reads.Asked,
+  fork-at-reads.Learnt,
+  counted-reads.Asked,
+  counted-reads.Learnt,
+  under-below t,
+  under.Post,
+  add3-reads.Asked,
+  add3-reads.Learnt,
+) (at-now t) at.Post)
+    → let start = c .before .before .args in Forked (start .t .now) (start .more) (start .x) (c .fork-at .result)
+sides t c = forked (c .before .before .pre .1 .1) (omega (arith, c .before .before .pre .1 .0)) (c .fork-at .ensures)
+
+pub +total-at+total-under-spec : {M : Type 1} → statement M
+unfolding totalOf
++total-at+total-under-spec = close μ-at μ-under (λ t. at-lts.spec (
+  fork-at-reads.Asked,
+  fork-at-reads.Learnt,
+  counted-reads.Asked,
+  counted-reads.Learnt,
+  under-below t,
+  under.Post,
+  add3-reads.Asked,
+  add3-reads.Learnt,
+)
+    (at-now t)
+    at.Post
+    -- fork-at-requires
+    (λ c κs. in-reach (c .before .pre .1 .1) (omega (arith, c .before .pre .1 .0)))
+    -- sub-less
+    (λ c. sides t c .some)
+    -- counted-requires
+    (λ c κs. search needs)
+    -- total-under-requires
+    (λ c κs.
+    let d = sides t (c .before .before) in
+    (omega (arith, c .before .before .before .before .pre .0, d .some), d .on-left))
+    -- total-under-requires-2
+    (λ c κs.
+    let d = sides t (c .before .before .before) in
+    (omega (arith, c .before .before .before .before .before .pre .0, d .some), d .on-right))
+    -- add3-requires
+    (λ c κs.
+    let d = sides t (c .before .before .before .before) in
+    let own = c .before .before .counted .ensures in
+    omega (arith, total-few d _ (c .before .total-under .ensures) (c .total-under2 .ensures) own))
+    -- returns
+    (λ c.
+    let d = sides t (c .before .before .before .before .before) in
+    let own = c .before .before .before .counted .ensures in
+    total-here d _ (c .before .before .total-under .ensures) (c .before .total-under2 .ensures) own (c .add3 .ensures)))
+    λ t. under-lts.spec
+    (at-below t, at.Post)
+    (under-now t)
+    under.Post
+    -- total-at-requires
+    (λ c κs.
+    let start = c .before .before in
+    (omega (arith, start .pre .0), (omega (arith, c .if1 .left), start .pre .1)))
+    -- returns
+    (λ c. says-leaf _ _ (totalOf (c .before .before .args .key)) (c .if1 .taken))
+    -- returns-2
+    (λ c. c .total-at .ensures)
