@@ -1,10 +1,9 @@
 // The whole program: reads standard input, and prints what each line answers.
 use crate::fill;
-use libc::STDIN_FILENO;
 use libc::STDOUT_FILENO;
 use scope::Refusal;
 ghost use mathlib.Core.Path.{_≡_};
-ghost use Prim.Native.Nat.{_+_, _≤_};
+ghost use Prim.Native.Nat.{_≤_};
 ghost use lib.ListN.{length, take, drop, replicate};
 ghost use Rattle.shift.specs.Run.{wholeRun, refusedText, runText};
 
@@ -33,59 +32,6 @@ fn answer_all(input: &[u8], t: &mut [u32], out: &mut [u8]) -> usize
     sent
 }
 
-// What came of reading.
-pub struct Got {
-    pub count: usize,
-    pub failed: bool,
-}
-
-// Reads once into buf: no bytes at the end of the input.
-fn read_once(buf: &mut [u8]) -> Got
-    ensures { λ r. ⌜ r .count ≤ length (now (buf .entry)) ⌝ }
-{
-    let got = libc::read(STDIN_FILENO, buf);
-    if got < 0 {
-        return Got {
-            count: 0,
-            failed: true,
-        };
-    }
-    Got {
-        count: io::count(got, buf),
-        failed: false,
-    }
-}
-
-// Reads once into buf from n on, and keeps what stands before.
-fn read_at(buf: &mut [u8], n: usize) -> Got
-    requires { ⌜ n ≤ length (now buf) ⌝ }
-    ensures { λ r. ⌜ n + r .count ≤ length (now (buf .entry)) ⌝ }
-    ensures { λ _. ⌜ take n (now (buf .exit)) ≡ take n (now (buf .entry)) ⌝ }
-{
-    read_once(&mut buf[n..])
-}
-
-// Reads standard input until it ends, a read fails or buf is full.
-fn read_input(buf: &mut [u8]) -> Got
-    ensures { λ r. ⌜ r .count ≤ length (now (buf .entry)) ⌝ }
-{
-    let mut n = 0;
-    while n < buf.len() {
-        let got = read_at(buf, n);
-        if got.count == 0 {
-            return Got {
-                count: n,
-                failed: got.failed,
-            };
-        }
-        n += got.count;
-    }
-    Got {
-        count: n,
-        failed: false,
-    }
-}
-
 // Puts the answer to an input that is too long or cannot be read: one unreadable line. The result is how long it is.
 fn put_refusal(out: &mut [u8]) -> usize
     requires { ⌜ 133 ≤ length (now out) ⌝ }
@@ -104,7 +50,7 @@ fn refuse_all() {
 // Reads all, and then answers all.
 pub fn run() {
     let mut input = [0u8; 65537];
-    let got = read_input(&mut input);
+    let got = intake::read_input(&mut input);
     let n = got.count;
     if got.failed {
         return refuse_all();

@@ -1,10 +1,10 @@
--- `shift::run::read_input` is safe and ends: a turn that reads nothing is the last. Assumes nothing.
+-- `intake::read_input` is safe and ends: a turn that reads nothing is the last. Assumes nothing.
 use Prim.Native.Nat.{_-_, _≤_}
 use mathlib.Core.Path.{_≡_}
 use native.Mathlib.Omega.{arith}
 use lib.ListN.{length}
-use Rattle.shift.proofs.run.read_input.Statement.{statement}
-use Rattle.shift.proofs.run.read_input.Tie as tie
+use Rattle.intake.proofs.read_input.Statement.{statement}
+use Rattle.intake.proofs.read_input.Tie as tie
 
 abbrev Inv-loop : tie.InvT-loop
 Inv-loop buf₀ n₀ buf n = (n ≤ length buf) × (length buf ≡ length buf₀)

@@ -1,11 +1,11 @@
--- `shift::run::read_at` meets its contract. Assumes nothing.
+-- `intake::read_at` meets its contract. Assumes nothing.
 use Prim.Native.Nat.{_-_}
 use native.Mathlib.Omega.{arith}
 use lib.ListN.{length}
 use borrow.Rule.Slice.PartMut.{take-put}
 use borrow.Author.Needs.{needs}
-use Rattle.shift.proofs.run.read_at.Statement.{statement}
-use Rattle.shift.proofs.run.read_at.Tie as tie
+use Rattle.intake.proofs.read_at.Statement.{statement}
+use Rattle.intake.proofs.read_at.Tie as tie
 
 sub-read-once : tie.Need-sub-read-once
 sub-read-once c = search needs
