@@ -64,7 +64,9 @@ pub fn height_in(t: &[u32], c: usize) -> usize
     requires { ⌜ Whole (now t) c ⌝ }
     ensures { λ r. ⌜ r ≡ trueHeight (treeIn (now (t .entry)) c) ⌝ }
 {
-    height_under(t, words::records(t), words::root(t))
+    let n = words::records(t);
+    let root = words::root(t);
+    if root == 0 { 0 } else { height_at(t, n, root) }
 }
 
 // The true height, answered like a call of document 01, though none asks for it.
@@ -122,7 +124,13 @@ pub fn total_in(t: &[u32], c: usize, key: u32) -> u64
     requires { ⌜ Whole (now t) c ⌝ }
     ensures { λ r. ⌜ r ≡ totalOf key (treeIn (now (t .entry)) c) ⌝ }
 {
-    total_under(t, words::records(t), words::root(t), key)
+    let n = words::records(t);
+    let root = words::root(t);
+    if root == 0 {
+        0
+    } else {
+        total_at(t, n, root, key)
+    }
 }
 
 // total: the pieces of all records with a key of at most `key`.
@@ -188,7 +196,13 @@ pub fn rank_in(t: &[u32], c: usize, r: usize) -> Rank
     requires { ⌜ (1 ≤ r) × Whole (now t) c ⌝ }
     ensures { λ a. ⌜ a ≡ rankOf r (treeIn (now (t .entry)) c) ⌝ }
 {
-    rank_said(rank_under(t, words::records(t), words::root(t), r))
+    let n = words::records(t);
+    let root = words::root(t);
+    if root == 0 {
+        Rank::Past(0)
+    } else {
+        rank_said(rank_at(t, n, root, r))
+    }
 }
 
 // What rank answers.
