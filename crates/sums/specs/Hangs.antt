@@ -1,5 +1,5 @@
 -- A tree that hangs at a link, and what a walk of it says. Assumes nothing: these are statements.
-use Prim.Native.Nat.{ℕ, _+_, _-_, _≤_}
+use Prim.Native.Nat.{ℕ, _+_, _-_, _*_, _≤_}
 use mathlib.Core.Path.{_≡_}
 use mathlib.Core.Bool.{true, cond}
 use mathlib.Core.List.{List}
@@ -8,7 +8,7 @@ use Rattle.scope.specs.Table.{word, changeWord, slotAt}
 use Rattle.scope.specs.Tree.{Tree, size, trueHeight}
 use Rattle.scope.specs.Sound.{Spells, treeIn}
 use Rattle.scope.specs.Answers.{accepted, answering}
-use Rattle.scope.specs.Sums.{soundGate}
+use Rattle.scope.specs.Sums.{soundGate, totalOf}
 use Rattle.scope.specs.declared.answer.Answer.{Answer}
 use Rattle.scope.specs.declared.slot.Slot.{Slot}
 use Rattle.scope.specs.declared.outcome.Rank.{Rank}
@@ -42,6 +42,15 @@ heightAnswer t =
 -- the pieces of a record whose key is at most K, else 0
 unfoldable pub counted : ℕ → Slot → ℕ
 counted K s = cond (leb (s .key) K) (s .pieces) 0
+
+-- a tree hangs at link x, and its pieces can be added to a sum
+pub record Adding (t : List ℕ) (more x sum : ℕ) : Type 0 where
+  pub hangs : Hangs t more x
+  pub room : sum + 1000000 * size (hangs .tree) ≤ 10000000000000
+
+-- a sum and the pieces of all records with a key of at most K
+abbrev pub totalOn : ℕ → ℕ → Tree → ℕ
+totalOn sum K T = sum + totalOf K T
 
 -- a rank on the right side, where `seen` slots stand before that side
 abbrev pub after : ℕ → Rank → Rank

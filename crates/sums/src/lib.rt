@@ -14,7 +14,7 @@ ghost use Rattle.scope.specs.Sound.{treeIn};
 ghost use Rattle.scope.specs.Sums.{rankOf, ranked, rankAnswer, totalOf, totalAnswer};
 ghost use Rattle.words.specs.Ready.{Headed};
 ghost use Rattle.sound.specs.Whole.{Whole};
-ghost use Rattle.sums.specs.Hangs.{Hangs, Says, forkAt, heightAnswer, counted, after, Few, rankIn};
+ghost use Rattle.sums.specs.Hangs.{Hangs, Says, forkAt, heightAnswer, counted, Adding, totalOn, after, Few, rankIn};
 
 // A slot with its two sons.
 pub struct Fork {
@@ -92,33 +92,29 @@ pub fn counted(key: u32, s: Slot) -> u64
     }
 }
 
-pub fn add3(a: u64, b: u64, own: u64) -> u64
-    requires { ⌜ a + b + own < 10000000000000 ⌝ }
-    ensures { λ r. ⌜ r ≡ a + b + own ⌝ }
-{
-    a + b + own
-}
-
-// The pieces of all records with a key of at most `key`, in slot x and what hangs below it.
-pub fn total_at(t: &[u32], more: usize, x: usize, key: u32) -> u64
-    requires { ⌜ (1 ≤ x) × Hangs (now t) more x ⌝ }
-    ensures { λ r. ⌜ Says (now (t .entry)) x (totalOf key) r ⌝ }
+// Adds to a sum the pieces of all records with a key of at most `key`, in slot x and what hangs below it.
+pub fn total_at(t: &[u32], more: usize, x: usize, key: u32, sum: u64) -> u64
+    requires { ⌜ (1 ≤ x) × Adding (now t) more x sum ⌝ }
+    ensures { λ r. ⌜ Says (now (t .entry)) x (totalOn sum key) r ⌝ }
 {
     let f = fork_at(t, x);
     let less = more - 1;
     let slot = f.slot;
     let own = counted(key, slot);
-    let a = total_under(t, less, f.left, key);
-    let b = total_under(t, less, f.right, key);
-    add3(a, b, own)
+    let a = total_under(t, less, f.left, key, sum);
+    total_under(t, less, f.right, key, a + own)
 }
 
 // The same at a link, which may be empty.
-pub fn total_under(t: &[u32], more: usize, x: usize, key: u32) -> u64
-    requires { ⌜ Hangs (now t) more x ⌝ }
-    ensures { λ r. ⌜ Says (now (t .entry)) x (totalOf key) r ⌝ }
+pub fn total_under(t: &[u32], more: usize, x: usize, key: u32, sum: u64) -> u64
+    requires { ⌜ Adding (now t) more x sum ⌝ }
+    ensures { λ r. ⌜ Says (now (t .entry)) x (totalOn sum key) r ⌝ }
 {
-    if x == 0 { 0 } else { total_at(t, more, x, key) }
+    if x == 0 {
+        sum
+    } else {
+        total_at(t, more, x, key, sum)
+    }
 }
 
 // The same over a sound table.
@@ -131,7 +127,7 @@ pub fn total_in(t: &[u32], c: usize, key: u32) -> u64
     if root == 0 {
         0
     } else {
-        total_at(t, n, root, key)
+        total_at(t, n, root, key, 0)
     }
 }
 

@@ -1,6 +1,7 @@
 -- `sums::total_in` meets its contract. Assumes nothing.
 use native.Mathlib.Omega.{arith}
 use Rattle.scope.specs.Sums.{totalOf}
+use Rattle.sums.specs.Hangs.{totalOn}
 use Rattle.sums.proofs.Down.{rooted, said, says-leaf}
 use borrow.Author.Needs.{needs}
 use Rattle.sums.proofs.total_in.Statement.{statement}
@@ -15,7 +16,8 @@ root-requires c κs = search needs
 total-at-requires : tie.Need-total-at-requires
 total-at-requires c κs =
     let start = c .before .before .before .before in
-    (omega (arith, c .if1 .left), rooted (start .pre) (c .before .root .ensures) (c .before .before .records .ensures))
+    let h = rooted (start .pre) (c .before .root .ensures) (c .before .before .records .ensures) in
+    (omega (arith, c .if1 .left), record { hangs = h; room = omega (arith, h .few, h .most) })
 
 returns : tie.Need-returns
 unfolding totalOf
@@ -27,7 +29,8 @@ returns c =
 returns-2 : tie.Need-returns-2
 returns-2 c =
     let start = c .before .before .before .before .before in
-    said (start .pre) (c .before .before .root .ensures) (totalOf (start .args .key)) (c .total-at .ensures)
+    let key = start .args .key in
+    omega (arith, said (start .pre) (c .before .before .root .ensures) (totalOn 0 key) (c .total-at .ensures))
 
 pub total-in-spec : {M : Type 1} → statement M
 total-in-spec = tie.close (tie.spec records-requires root-requires total-at-requires returns returns-2)
