@@ -8,7 +8,7 @@ use Rattle.scope.specs.Table.{word, changeWord, slotAt}
 use Rattle.scope.specs.Tree.{Tree, size, trueHeight}
 use Rattle.scope.specs.Sound.{Spells, treeIn}
 use Rattle.scope.specs.Answers.{accepted, answering}
-use Rattle.scope.specs.Sums.{soundGate, totalOf}
+use Rattle.scope.specs.Sums.{soundGate, totalOf, rankOf}
 use Rattle.scope.specs.declared.answer.Answer.{Answer}
 use Rattle.scope.specs.declared.slot.Slot.{Slot}
 use Rattle.scope.specs.declared.outcome.Rank.{Rank}
@@ -57,11 +57,11 @@ abbrev pub after : ℕ → Rank → Rank
 after seen (At k) = At k
 after seen (Past n) = Past (seen + n)
 
--- no more slots than a table has
-abbrev pub Few : Rank → Type 0
-Few (At k) = Unit {0}
-Few (Past n) = n ≤ 4095
+-- a rank as one number, where rank r is wanted as r + 4095: a slot, or what is wanted after so many
+unfoldable pub rankIn : ℕ → ℕ → Rank
+rankIn wanted n = cond (ltb n 4096) (At n) (Past (wanted - n))
 
--- a rank as one number: so many slots, or 8,192 and the slot that was found
-unfoldable pub rankIn : ℕ → Rank
-rankIn n = cond (ltb n 8192) (Past n) (At (n - 8192))
+-- n is what a walk from link x says
+pub record Seeks (t : List ℕ) (x wanted n : ℕ) : Type 0 where
+  pub most : n ≤ wanted
+  pub says : Says t x (rankOf (wanted - 4095)) (rankIn wanted n)

@@ -14,7 +14,7 @@ ghost use Rattle.scope.specs.Sound.{treeIn};
 ghost use Rattle.scope.specs.Sums.{rankOf, ranked, rankAnswer, totalOf, totalAnswer};
 ghost use Rattle.words.specs.Ready.{Headed};
 ghost use Rattle.sound.specs.Whole.{Whole};
-ghost use Rattle.sums.specs.Hangs.{Hangs, Says, forkAt, heightAnswer, counted, Adding, totalOn, after, Few, rankIn};
+ghost use Rattle.sums.specs.Hangs.{Hangs, Says, forkAt, heightAnswer, counted, Adding, totalOn, rankIn, Seeks};
 
 // A slot with its two sons.
 pub struct Fork {
@@ -141,66 +141,62 @@ pub fn total(t: &[u32], key: u32) -> Answer
     }
 }
 
-// Above every count of slots. A walk for a rank says so many slots, or this and the slot that it found.
-pub const FOUND: usize = 8192;
+// Rank 1 as a number, and rank r is r + 4095: so a rank that is wanted is above every slot.
+pub const FIRST: usize = 4096;
 
-// What a rank on the right side is over the whole, where `seen` slots stand before that side.
-pub fn after(seen: usize, found: usize) -> usize
-    requires { ⌜ (seen ≤ 4095) × Few (rankIn found) ⌝ }
-    ensures { λ r. ⌜ rankIn r ≡ after seen (rankIn found) ⌝ }
-{
-    if found < FOUND { seen + found } else { found }
-}
-
-// The slot of the r-th smallest key among slot x and what hangs below it, or how many slots that is.
-pub fn rank_at(t: &[u32], more: usize, x: usize, r: usize) -> usize
-    requires { ⌜ (1 ≤ x) × (1 ≤ r) × Hangs (now t) more x ⌝ }
-    ensures { λ a. ⌜ Says (now (t .entry)) x (rankOf r) (rankIn a) ⌝ }
+// Looks for a rank among slot x and what hangs below it. Says the slot, or the rank that is wanted after all these.
+pub fn rank_at(t: &[u32], more: usize, x: usize, wanted: usize) -> usize
+    requires { ⌜ (1 ≤ x) × (4096 ≤ wanted) × Hangs (now t) more x ⌝ }
+    ensures { λ a. ⌜ Seeks (now (t .entry)) x wanted a ⌝ }
 {
     let f = fork_at(t, x);
     let less = more - 1;
-    let n = rank_under(t, less, f.left, r);
-    if FOUND <= n {
+    let n = rank_under(t, less, f.left, wanted);
+    if n < FIRST {
         return n;
     }
-    let seen = n + 1;
-    if seen == r {
-        return FOUND + x;
+    if n == FIRST {
+        return x;
     }
-    after(seen, rank_under(t, less, f.right, r - seen))
+    rank_under(t, less, f.right, n - 1)
 }
 
 // The same at a link, which may be empty.
-pub fn rank_under(t: &[u32], more: usize, x: usize, r: usize) -> usize
-    requires { ⌜ (1 ≤ r) × Hangs (now t) more x ⌝ }
-    ensures { λ a. ⌜ Says (now (t .entry)) x (rankOf r) (rankIn a) ⌝ }
+pub fn rank_under(t: &[u32], more: usize, x: usize, wanted: usize) -> usize
+    requires { ⌜ (4096 ≤ wanted) × Hangs (now t) more x ⌝ }
+    ensures { λ a. ⌜ Seeks (now (t .entry)) x wanted a ⌝ }
 {
-    if x == 0 { 0 } else { rank_at(t, more, x, r) }
-}
-
-// What such a number says.
-pub fn rank_said(n: usize) -> Rank
-    ensures { λ a. ⌜ a ≡ rankIn n ⌝ }
-{
-    if n < FOUND {
-        Rank::Past(n)
+    if x == 0 {
+        wanted
     } else {
-        Rank::At(n - FOUND)
+        rank_at(t, more, x, wanted)
     }
 }
 
-// The same over a sound table.
+// What such a number says.
+pub fn rank_said(wanted: usize, n: usize) -> Rank
+    requires { ⌜ n ≤ wanted ⌝ }
+    ensures { λ a. ⌜ a ≡ rankIn wanted n ⌝ }
+{
+    if n < FIRST {
+        Rank::At(n)
+    } else {
+        Rank::Past(wanted - n)
+    }
+}
+
+// The slot of the r-th smallest key of a sound table, or how many records it has.
 pub fn rank_in(t: &[u32], c: usize, r: usize) -> Rank
     requires { ⌜ (1 ≤ r) × Whole (now t) c ⌝ }
     ensures { λ a. ⌜ a ≡ rankOf r (treeIn (now (t .entry)) c) ⌝ }
 {
     let n = words::records(t);
-    let root = words::root(t);
-    if root == 0 {
-        Rank::Past(0)
-    } else {
-        rank_said(rank_at(t, n, root, r))
+    if n < r {
+        return Rank::Past(n);
     }
+    let root = words::root(t);
+    let wanted = r + 4095;
+    rank_said(wanted, rank_at(t, n, root, wanted))
 }
 
 // What rank answers.
