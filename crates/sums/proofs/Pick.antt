@@ -9,8 +9,13 @@ use lib.Seq.{getD-append-add, getD-append-seam}
 use borrow.Author.Tests.{le-leb, lt-leb}
 use Rattle.scope.specs.Tree.{Batch, Tree, leaf, node, size, inOrder}
 use Rattle.scope.specs.Sums.{slotsInOrder, pick}
+use Rattle.scope.specs.declared.outcome.Rank.{Rank}
 use Rattle.scope.specs.declared.outcome.Rank.the-variants.{At, Past}
-use Rattle.sums.specs.Hangs.{after}
+
+-- a rank on the right side, where `seen` slots stand before that side
+abbrev pub after : ℕ → Rank → Rank
+after seen (At k) = At k
+after seen (Past n) = Past (seen + n)
 
 -- a node's slots in order are those on its left, its own, and those on its right
 pub order-node : (d : Batch) (a b : ℕ) (l r : Tree)

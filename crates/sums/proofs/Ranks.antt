@@ -14,9 +14,10 @@ use Rattle.scope.specs.Sums.{slotsInOrder, pick, rankOf}
 use Rattle.scope.specs.declared.outcome.Rank.{Rank}
 use Rattle.scope.specs.declared.outcome.Rank.the-variants.{At, Past}
 use Rattle.sums.specs.declared.Fork.{Fork}
-use Rattle.sums.specs.Hangs.{Hangs, Says, after, rankIn, Seeks}
+use Rattle.sums.specs.Hangs.{Hangs, Says, rankIn, Seeks}
 use Rattle.sums.proofs.Down.{Forked, said-at, at-leaf, says-leaf, says-fork}
-use Rattle.sums.proofs.Pick.{order-node, order-size, pick-past, past-is, pick-left, pick-here, pick-after}
+use Rattle.sums.proofs.Pick.{after, order-node, order-size, pick-past, past-is}
+use Rattle.sums.proofs.Pick.{pick-left, pick-here, pick-after}
 
 -- what a number below 4,096 says, and one from there on
 pub at-in : (w : ℕ) {n : ℕ} → n < 4096 → rankIn w n ≡ At n
@@ -106,7 +107,9 @@ module _ {t : List ℕ} {more x w n : ℕ} {f : Fork} (h : Hangs t more x) (d : 
       joined : rankIn w q ≡ after (w - n + 1) (rankIn (n - 1) q)
       joined =
           elim (decLe 4096 q) [
-            | yes k ↦ past-in w k ∙ ap Past (omega (arith, s .most, z .most)) ∙ ap (after (w - n + 1)) (sym (past-in (n - 1) k))
+            | yes k ↦
+                past-in w k ∙ ap Past (omega (arith, s .most, z .most))
+                ∙ ap (after (w - n + 1)) (sym (past-in (n - 1) k))
             | no k ↦ at-in w (omega arith) ∙ ap (after (w - n + 1)) (sym (at-in (n - 1) (omega arith)))
           ]
 

@@ -52,11 +52,6 @@ pub record Adding (t : List ℕ) (more x sum : ℕ) : Type 0 where
 abbrev pub totalOn : ℕ → ℕ → Tree → ℕ
 totalOn sum K T = sum + totalOf K T
 
--- a rank on the right side, where `seen` slots stand before that side
-abbrev pub after : ℕ → Rank → Rank
-after seen (At k) = At k
-after seen (Past n) = Past (seen + n)
-
 -- a rank as one number, where rank r is wanted as r + 4095: a slot, or what is wanted after so many
 unfoldable pub rankIn : ℕ → ℕ → Rank
 rankIn wanted n = cond (ltb n 4096) (At n) (Past (wanted - n))

@@ -46,7 +46,9 @@ sides : (t : ℕ) (c : at-lts.After-fork-at (
   under.Post,
 ) (at-now t) at.Post)
     → let start = c .before .before .args in Forked (start .t .now) (start .more) (start .x) (c .fork-at .result)
-sides t c = forked (c .before .before .pre .1 .1 .hangs) (omega (arith, c .before .before .pre .1 .0)) (c .fork-at .ensures)
+sides t c =
+    let pre = c .before .before .pre .1 in
+    forked (pre .1 .hangs) (omega (arith, pre .0)) (c .fork-at .ensures)
 
 pub +total-at+total-under-spec : {M : Type 1} → statement M
 +total-at+total-under-spec = close μ-at μ-under (λ t. at-lts.spec (
@@ -86,7 +88,8 @@ pub +total-at+total-under-spec : {M : Type 1} → statement M
     (λ c.
     let v = c .before .before .before .before in
     let own = c .before .before .counted .ensures in
-    total-here (v .before .before .pre .1 .1) (sides t v) _ (c .before .total-under .ensures) own (c .total-under2 .ensures)))
+    let a = c .before .total-under .ensures in
+    total-here (v .before .before .pre .1 .1) (sides t v) _ a own (c .total-under2 .ensures)))
     λ t. under-lts.spec
     (at-below t, at.Post)
     (under-now t)
