@@ -11,7 +11,11 @@ use Rattle.scope.specs.Tree.{Batch, Tree, leaf, node, size, inOrder}
 use Rattle.scope.specs.Sums.{slotsInOrder, pick}
 use Rattle.scope.specs.declared.outcome.Rank.{Rank}
 use Rattle.scope.specs.declared.outcome.Rank.the-variants.{At, Past}
-use Rattle.sums.specs.Hangs.{after, Few}
+
+-- a rank on the right side, where `seen` slots stand before that side
+abbrev pub after : ℕ → Rank → Rank
+after seen (At k) = At k
+after seen (Past n) = Past (seen + n)
 
 -- a node's slots in order are those on its left, its own, and those on its right
 pub order-node : (d : Batch) (a b : ℕ) (l r : Tree)
@@ -48,13 +52,6 @@ past-is r l n e =
       | yes h ↦ let p = pick-at r l h in let z : _≡_ {A = ℕ} 0 1 = cc in absurd (omega arith)
       | no h ↦ let i : n ≡ length l = cc (pick-past r l (omega arith)) in (i, omega arith)
     ]
-
-few-of : (p : Rank) → ((n : ℕ) → p ≡ Past n → n ≤ 4095) → Few p
-few-of (At k) h = tt
-few-of (Past n) h = h n refl
-
-pub pick-few : (r : ℕ) (l : List ℕ) → length l ≤ 4095 → Few (pick r l)
-pick-few r l h = few-of (pick r l) (λ n e. omega (arith, past-is r l n e))
 
 -- a list, one slot, and a list after it
 module _ (r : ℕ) (l : List ℕ) (x : ℕ) (rs : List ℕ) (pos : 1 ≤ r) where

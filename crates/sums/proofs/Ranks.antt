@@ -2,42 +2,47 @@
 use Prim.Native.Nat.{ℕ, _+_, _-_, _≤_, _<_}
 use mathlib.Core.Path.{_≡_, refl, sym, ap, _∙_}
 use mathlib.Core.List.{List, [], _∷_, _++_}
+use native.Mathlib.Decide.{decLe}
 use native.Mathlib.Omega.{arith}
 use borrow.Author.Tests.{lt-ltb, le-ltb}
-use Rattle.scope.specs.Tree.{inOrder}
-use Rattle.scope.specs.Sound.{batchAt}
+use Rattle.scope.specs.Tree.{Tree, size, inOrder}
+use Rattle.scope.specs.Table.{word, rootWord, countWord}
+use Rattle.scope.specs.Sound.{batchAt, treeIn}
+use Rattle.sound.specs.Whole.{Whole}
+use Rattle.sound.proofs.Spell.{tree-in}
 use Rattle.scope.specs.Sums.{slotsInOrder, pick, rankOf}
 use Rattle.scope.specs.declared.outcome.Rank.{Rank}
 use Rattle.scope.specs.declared.outcome.Rank.the-variants.{At, Past}
 use Rattle.sums.specs.declared.Fork.{Fork}
-use Rattle.sums.specs.Hangs.{Says, after, Few, rankIn}
-use Rattle.sums.proofs.Down.{Forked, said-at, says-leaf, says-fork}
-use Rattle.sums.proofs.Pick.{order-node, order-size, pick-past, past-is, pick-few, pick-left, pick-here, pick-after}
+use Rattle.sums.specs.Hangs.{Hangs, Says, rankIn, Seeks}
+use Rattle.sums.proofs.Down.{Forked, said-at, at-leaf, says-leaf, says-fork}
+use Rattle.sums.proofs.Pick.{after, order-node, order-size, pick-past, past-is}
+use Rattle.sums.proofs.Pick.{pick-left, pick-here, pick-after}
 
--- what a number below 8,192 says, and one from there on
-pub past-in : {n : ℕ} → n < 8192 → rankIn n ≡ Past n
+-- what a number below 4,096 says, and one from there on
+pub at-in : (w : ℕ) {n : ℕ} → n < 4096 → rankIn w n ≡ At n
 unfolding rankIn
-past-in {n} h = rw (lt-ltb n 8192 h) refl
+at-in w {n} h = rw (lt-ltb n 4096 h) refl
 
-pub at-in : {n : ℕ} → 8192 ≤ n → rankIn n ≡ At (n - 8192)
+pub past-in : (w : ℕ) {n : ℕ} → 4096 ≤ n → rankIn w n ≡ Past (w - n)
 unfolding rankIn
-at-in {n} h = rw (le-ltb n 8192 h) refl
-
-pub found-in : (x : ℕ) → rankIn (8192 + x) ≡ At x
-found-in x = at-in (omega arith) ∙ ap At (omega arith)
+past-in w {n} h = rw (le-ltb n 4096 h) refl
 
 -- no slot hangs at the empty link
-pub rank-leaf : (t : List ℕ) (x r : ℕ) → 1 ≤ r → x ≡ 0 → Says t x (rankOf r) (rankIn 0)
+pub rank-leaf : (t : List ℕ) (x w : ℕ) → 4096 ≤ w → x ≡ 0 → Seeks t x w w
 unfolding rankOf inOrder
-rank-leaf t x r pos e c T p = past-in (omega arith) ∙ sym (pick-past r [] pos) ∙ says-leaf t x (rankOf r) e c T p
+rank-leaf t x w pos e = record {
+  most = omega arith;
+  says = λ c T p.
+      past-in w pos ∙ ap Past (omega arith) ∙ sym (pick-past (w - 4095) [] (omega arith))
+      ∙ says-leaf t x (rankOf (w - 4095)) e c T p;
+}
 
--- on the right side there are few slots
-pub right-few : {t : List ℕ} {more x : ℕ} {f : Fork} (d : Forked t more x f) (r : ℕ) {b : Rank}
-    → Says t (f .right) (rankOf r) b → Few b
+-- a rank above the number of records
+pub rank-beyond : (r : ℕ) (T : Tree) → size T < r → Past (size T) ≡ rankOf r T
 unfolding rankOf
-right-few d r sb =
-    rw (said-at (d .on-right) (rankOf r) sb)
-    (pick-few r (slotsInOrder (d .on-right .tree)) (omega (arith, order-size (d .on-right .tree), d .few, d .most)))
+rank-beyond r T h =
+    ap Past (sym (order-size T)) ∙ sym (pick-past r (slotsInOrder T) (omega (arith, order-size T)))
 
 module _ {t : List ℕ} {more x : ℕ} {f : Fork} (d : Forked t more x f) {r : ℕ} (pos : 1 ≤ r) where
   abbrev L : List ℕ
@@ -73,3 +78,57 @@ module _ {t : List ℕ} {more x : ℕ} {f : Fork} (d : Forked t more x f) {r : �
 
         pub rank-after : (n + 1 ≡ r → ⊥) → {q : Rank} → q ≡ after (n + 1) b → Says t x (rankOf r) q
         rank-after ne eq = rank-node (pick-after r L x R pos n (sym on-left ∙ e) ne ∙ ap (after (n + 1)) (sym on-right) ∙ sym eq)
+
+-- the walk's numbers at a slot
+module _ {t : List ℕ} {more x w n : ℕ} {f : Fork} (h : Hangs t more x) (d : Forked t more x f) (pos : 4096 ≤ w)
+    (s : Seeks t (f .left) w n) where
+  pub seek-left : n < 4096 → Seeks t x w n
+  seek-left lt = record {
+    most = s .most;
+    says = rw (at-in w lt) (rank-left d (omega arith) (s .says) (at-in w lt));
+  }
+
+  pub seek-here : n ≡ 4096 → Seeks t x w x
+  seek-here e = record {
+    most = omega (arith, h .link, h .sized .most);
+    says = rw (at-in w {n = x} (omega (arith, h .link, h .sized .most)))
+        (rank-here d (omega arith) (s .says) (past-in w (omega arith)) (omega arith));
+  }
+
+  pub seek-right : {q : ℕ} → 4096 ≤ n → (n ≡ 4096 → ⊥) → Seeks t (f .right) (n - 1) q → Seeks t x w q
+  seek-right {q} ge ne z =
+      let e : n - 1 - 4095 ≡ w - 4095 - (w - n + 1) = omega (arith, s .most) in
+      let right = rw e at (z .says) in
+      record {
+        most = omega (arith, s .most, z .most);
+        says = rank-after d (omega arith) (s .says) (past-in w ge) right (λ i. ne (omega (arith, s .most))) joined;
+      }
+    where
+      joined : rankIn w q ≡ after (w - n + 1) (rankIn (n - 1) q)
+      joined =
+          elim (decLe 4096 q) [
+            | yes k ↦
+                past-in w k ∙ ap Past (omega (arith, s .most, z .most))
+                ∙ ap (after (w - n + 1)) (sym (past-in (n - 1) k))
+            | no k ↦ at-in w (omega arith) ∙ ap (after (w - n + 1)) (sym (at-in (n - 1) (omega arith)))
+          ]
+
+-- the whole table
+module _ {t : List ℕ} {c n : ℕ} (w : Whole t c) (en : n ≡ word t countWord) where
+  counts : n ≡ size (treeIn t c)
+  counts = cc (en, w .sound .count, ap size (tree-in t c (w .sound)))
+
+  pub rank-over : {r : ℕ} → n < r → Past n ≡ rankOf r (treeIn t c)
+  rank-over {r} lt = ap Past counts ∙ rank-beyond r (treeIn t c) (omega (arith, counts))
+
+  -- a table with records has a root
+  pub some-root : {x : ℕ} → x ≡ word t rootWord → 1 ≤ n → 1 ≤ x
+  unfolding size
+  some-root {x} ex pos =
+      elim (decLe 1 x) [
+        | yes h ↦ h
+        | no h ↦
+            let e = at-leaf t c x (omega arith) (w .sound .tree) (rw ex (w .sound .reached)) in
+            let z : size (w .sound .tree) ≡ 0 = ap size e in
+            absurd (omega (arith, w .sound .count, en))
+      ]

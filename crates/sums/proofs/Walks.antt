@@ -1,6 +1,6 @@
 -- What each sum is at a slot, from those of its two sides; and how large it can be. Assumes nothing.
-use Prim.Native.Nat.{ℕ, _+_, _*_, _≤_}
-use mathlib.Core.Path.{_≡_, ap}
+use Prim.Native.Nat.{ℕ, suc, _+_, _-_, _*_, _≤_}
+use mathlib.Core.Path.{_≡_, ap, _∙_}
 use mathlib.Core.Bool.{Bool, true, false, not, cond, _&&_}
 use mathlib.Core.List.{List}
 use native.Mathlib.Omega.{arith}
@@ -14,8 +14,8 @@ use Rattle.scope.specs.Sound.{Spells}
 use Rattle.scope.specs.Sums.{totalOf}
 use Rattle.scope.specs.declared.slot.Slot.{Slot}
 use Rattle.sums.specs.declared.Fork.{Fork}
-use Rattle.sums.specs.Hangs.{Says, counted}
-use Rattle.sums.proofs.Down.{Forked, said-at, says-fork}
+use Rattle.sums.specs.Hangs.{Says, counted, Adding, totalOn}
+use Rattle.sums.proofs.Down.{Forked, said-at, says-leaf, says-fork}
 
 pub height-most : (T : Tree) → trueHeight T ≤ size T
 unfolding trueHeight size
@@ -63,27 +63,41 @@ module _ {t : List ℕ} {more x : ℕ} {f : Fork} (d : Forked t more x f) where
     unfolding trueHeight
     height-here e = says-fork trueHeight d (cc (e, said-at (d .on-left) trueHeight sa, said-at (d .on-right) trueHeight sb))
 
-  module _ (K : ℕ) {a b own : ℕ} (sa : Says t (f .left) (totalOf K) a) (sb : Says t (f .right) (totalOf K) b)
-      (eo : own ≡ counted K (f .slot)) where
-    pub total-few : (a ≤ 4095000000) × (b ≤ 4095000000) × (own ≤ 1000000)
-    total-few =
-        let l = d .on-left in
-        let r = d .on-right in
-        omega (
-          arith,
-          total-most t (l .slots) K (f .left) (l .tree) (l .reached),
-          total-most t (r .slots) K (f .right) (r .tree) (r .reached),
-          counted-most K (d .c) (f .slot) (d .fit),
-          d .few,
-          d .most,
-          said-at l (totalOf K) sa,
-          said-at r (totalOf K) sb,
-        )
+-- nothing is added at the empty link
+pub nothing-added : (t : List ℕ) (x sum K : ℕ) → x ≡ 0 → Says t x (totalOn sum K) sum
+unfolding totalOf
+nothing-added t x sum K e c T p = omega arith ∙ says-leaf t x (totalOn sum K) e c T p
 
-    pub total-here : {r : ℕ} → r ≡ a + b + own → Says t x (totalOf K) r
+-- adding up the pieces at a slot and on its two sides
+module _ {t : List ℕ} {more x sum : ℕ} {f : Fork} (g : Adding t more x sum) (d : Forked t more x f) where
+  sizes : size (g .hangs .tree) ≡ suc (size (d .on-left .tree) + size (d .on-right .tree))
+  unfolding size
+  sizes = ap size (d .whole (g .hangs .slots) (g .hangs .tree) (g .hangs .reached)) ∙ omega arith
+
+  pub left-room : Adding t (more - 1) (f .left) sum
+  left-room = record { hangs = d .on-left; room = omega (arith, g .room, sizes) }
+
+  module _ (K : ℕ) {a own : ℕ} (sa : Says t (f .left) (totalOn sum K) a) (eo : own ≡ counted K (f .slot)) where
+    pub right-room : Adding t (more - 1) (f .right) (a + own)
+    right-room =
+        let l = d .on-left in
+        record {
+          hangs = d .on-right;
+          room = omega (
+            arith,
+            g .room,
+            sizes,
+            said-at l (totalOn sum K) sa,
+            total-most t (l .slots) K (f .left) (l .tree) (l .reached),
+            counted-most K (d .c) (f .slot) (d .fit),
+          );
+        }
+
+    pub total-here : {r : ℕ} → Says t (f .right) (totalOn (a + own) K) r → Says t x (totalOn sum K) r
     unfolding totalOf counted
-    total-here e =
+    total-here sr =
         let key = ap (λ (s : Slot). s .key) (d .slot) in
         let pieces = ap (λ (s : Slot). s .pieces) (d .slot) in
-        says-fork (totalOf K) d
-        (cc (e, eo, key, pieces, said-at (d .on-left) (totalOf K) sa, said-at (d .on-right) (totalOf K) sb))
+        let is : own ≡ cond (leb (slotAt t x .key) K) (slotAt t x .pieces) 0 = cc (eo, key, pieces) in
+        says-fork (totalOn sum K) d
+        (omega (arith, is, said-at (d .on-left) (totalOn sum K) sa, said-at (d .on-right) (totalOn (a + own) K) sr))

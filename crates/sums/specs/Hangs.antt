@@ -1,5 +1,5 @@
 -- A tree that hangs at a link, and what a walk of it says. Assumes nothing: these are statements.
-use Prim.Native.Nat.{ℕ, _+_, _-_, _≤_}
+use Prim.Native.Nat.{ℕ, _+_, _-_, _*_, _≤_}
 use mathlib.Core.Path.{_≡_}
 use mathlib.Core.Bool.{true, cond}
 use mathlib.Core.List.{List}
@@ -8,7 +8,7 @@ use Rattle.scope.specs.Table.{word, changeWord, slotAt}
 use Rattle.scope.specs.Tree.{Tree, size, trueHeight}
 use Rattle.scope.specs.Sound.{Spells, treeIn}
 use Rattle.scope.specs.Answers.{accepted, answering}
-use Rattle.scope.specs.Sums.{soundGate}
+use Rattle.scope.specs.Sums.{soundGate, totalOf, rankOf}
 use Rattle.scope.specs.declared.answer.Answer.{Answer}
 use Rattle.scope.specs.declared.slot.Slot.{Slot}
 use Rattle.scope.specs.declared.outcome.Rank.{Rank}
@@ -43,16 +43,20 @@ heightAnswer t =
 unfoldable pub counted : ℕ → Slot → ℕ
 counted K s = cond (leb (s .key) K) (s .pieces) 0
 
--- a rank on the right side, where `seen` slots stand before that side
-abbrev pub after : ℕ → Rank → Rank
-after seen (At k) = At k
-after seen (Past n) = Past (seen + n)
+-- a tree hangs at link x, and its pieces can be added to a sum
+pub record Adding (t : List ℕ) (more x sum : ℕ) : Type 0 where
+  pub hangs : Hangs t more x
+  pub room : sum + 1000000 * size (hangs .tree) ≤ 10000000000000
 
--- no more slots than a table has
-abbrev pub Few : Rank → Type 0
-Few (At k) = Unit {0}
-Few (Past n) = n ≤ 4095
+-- a sum and the pieces of all records with a key of at most K
+abbrev pub totalOn : ℕ → ℕ → Tree → ℕ
+totalOn sum K T = sum + totalOf K T
 
--- a rank as one number: so many slots, or 8,192 and the slot that was found
-unfoldable pub rankIn : ℕ → Rank
-rankIn n = cond (ltb n 8192) (Past n) (At (n - 8192))
+-- a rank as one number, where rank r is wanted as r + 4095: a slot, or what is wanted after so many
+unfoldable pub rankIn : ℕ → ℕ → Rank
+rankIn wanted n = cond (ltb n 4096) (At n) (Past (wanted - n))
+
+-- n is what a walk from link x says
+pub record Seeks (t : List ℕ) (x wanted n : ℕ) : Type 0 where
+  pub most : n ≤ wanted
+  pub says : Says t x (rankOf (wanted - 4095)) (rankIn wanted n)

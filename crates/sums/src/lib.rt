@@ -1,4 +1,6 @@
 // Sums over a sound table: the true height, the total and the rank, each by a walk of both sides of every slot.
+// A walk is two functions, at a slot and at a link, which may be empty. It starts at the root's slot: entered there,
+// the test of a link is compiled into the slot above it, and an empty link costs no call.
 use scope::Answer;
 use scope::Gate;
 use scope::Rank;
@@ -12,7 +14,7 @@ ghost use Rattle.scope.specs.Sound.{treeIn};
 ghost use Rattle.scope.specs.Sums.{rankOf, ranked, rankAnswer, totalOf, totalAnswer};
 ghost use Rattle.words.specs.Ready.{Headed};
 ghost use Rattle.sound.specs.Whole.{Whole};
-ghost use Rattle.sums.specs.Hangs.{Hangs, Says, forkAt, heightAnswer, counted, after, Few, rankIn};
+ghost use Rattle.sums.specs.Hangs.{Hangs, Says, forkAt, heightAnswer, counted, Adding, totalOn, rankIn, Seeks};
 
 // A slot with its two sons.
 pub struct Fork {
@@ -64,7 +66,9 @@ pub fn height_in(t: &[u32], c: usize) -> usize
     requires { ⌜ Whole (now t) c ⌝ }
     ensures { λ r. ⌜ r ≡ trueHeight (treeIn (now (t .entry)) c) ⌝ }
 {
-    height_under(t, words::records(t), words::root(t))
+    let n = words::records(t);
+    let root = words::root(t);
+    if root == 0 { 0 } else { height_at(t, n, root) }
 }
 
 // The true height, answered like a call of document 01, though none asks for it.
@@ -88,33 +92,29 @@ pub fn counted(key: u32, s: Slot) -> u64
     }
 }
 
-pub fn add3(a: u64, b: u64, own: u64) -> u64
-    requires { ⌜ a + b + own < 10000000000000 ⌝ }
-    ensures { λ r. ⌜ r ≡ a + b + own ⌝ }
-{
-    a + b + own
-}
-
-// The pieces of all records with a key of at most `key`, in slot x and what hangs below it.
-pub fn total_at(t: &[u32], more: usize, x: usize, key: u32) -> u64
-    requires { ⌜ (1 ≤ x) × Hangs (now t) more x ⌝ }
-    ensures { λ r. ⌜ Says (now (t .entry)) x (totalOf key) r ⌝ }
+// Adds to a sum the pieces of all records with a key of at most `key`, in slot x and what hangs below it.
+pub fn total_at(t: &[u32], more: usize, x: usize, key: u32, sum: u64) -> u64
+    requires { ⌜ (1 ≤ x) × Adding (now t) more x sum ⌝ }
+    ensures { λ r. ⌜ Says (now (t .entry)) x (totalOn sum key) r ⌝ }
 {
     let f = fork_at(t, x);
     let less = more - 1;
     let slot = f.slot;
     let own = counted(key, slot);
-    let a = total_under(t, less, f.left, key);
-    let b = total_under(t, less, f.right, key);
-    add3(a, b, own)
+    let a = total_under(t, less, f.left, key, sum);
+    total_under(t, less, f.right, key, a + own)
 }
 
 // The same at a link, which may be empty.
-pub fn total_under(t: &[u32], more: usize, x: usize, key: u32) -> u64
-    requires { ⌜ Hangs (now t) more x ⌝ }
-    ensures { λ r. ⌜ Says (now (t .entry)) x (totalOf key) r ⌝ }
+pub fn total_under(t: &[u32], more: usize, x: usize, key: u32, sum: u64) -> u64
+    requires { ⌜ Adding (now t) more x sum ⌝ }
+    ensures { λ r. ⌜ Says (now (t .entry)) x (totalOn sum key) r ⌝ }
 {
-    if x == 0 { 0 } else { total_at(t, more, x, key) }
+    if x == 0 {
+        sum
+    } else {
+        total_at(t, more, x, key, sum)
+    }
 }
 
 // The same over a sound table.
@@ -122,7 +122,13 @@ pub fn total_in(t: &[u32], c: usize, key: u32) -> u64
     requires { ⌜ Whole (now t) c ⌝ }
     ensures { λ r. ⌜ r ≡ totalOf key (treeIn (now (t .entry)) c) ⌝ }
 {
-    total_under(t, words::records(t), words::root(t), key)
+    let n = words::records(t);
+    let root = words::root(t);
+    if root == 0 {
+        0
+    } else {
+        total_at(t, n, root, key, 0)
+    }
 }
 
 // total: the pieces of all records with a key of at most `key`.
@@ -135,60 +141,62 @@ pub fn total(t: &[u32], key: u32) -> Answer
     }
 }
 
-// Above every count of slots. A walk for a rank says so many slots, or this and the slot that it found.
-pub const FOUND: usize = 8192;
+// Rank 1 as a number, and rank r is r + 4095: so a rank that is wanted is above every slot.
+pub const FIRST: usize = 4096;
 
-// What a rank on the right side is over the whole, where `seen` slots stand before that side.
-pub fn after(seen: usize, found: usize) -> usize
-    requires { ⌜ (seen ≤ 4095) × Few (rankIn found) ⌝ }
-    ensures { λ r. ⌜ rankIn r ≡ after seen (rankIn found) ⌝ }
-{
-    if found < FOUND { seen + found } else { found }
-}
-
-// The slot of the r-th smallest key among slot x and what hangs below it, or how many slots that is.
-pub fn rank_at(t: &[u32], more: usize, x: usize, r: usize) -> usize
-    requires { ⌜ (1 ≤ x) × (1 ≤ r) × Hangs (now t) more x ⌝ }
-    ensures { λ a. ⌜ Says (now (t .entry)) x (rankOf r) (rankIn a) ⌝ }
+// Looks for a rank among slot x and what hangs below it. Says the slot, or the rank that is wanted after all these.
+pub fn rank_at(t: &[u32], more: usize, x: usize, wanted: usize) -> usize
+    requires { ⌜ (1 ≤ x) × (4096 ≤ wanted) × Hangs (now t) more x ⌝ }
+    ensures { λ a. ⌜ Seeks (now (t .entry)) x wanted a ⌝ }
 {
     let f = fork_at(t, x);
     let less = more - 1;
-    let n = rank_under(t, less, f.left, r);
-    if FOUND <= n {
+    let n = rank_under(t, less, f.left, wanted);
+    if n < FIRST {
         return n;
     }
-    let seen = n + 1;
-    if seen == r {
-        return FOUND + x;
+    if n == FIRST {
+        return x;
     }
-    after(seen, rank_under(t, less, f.right, r - seen))
+    rank_under(t, less, f.right, n - 1)
 }
 
 // The same at a link, which may be empty.
-pub fn rank_under(t: &[u32], more: usize, x: usize, r: usize) -> usize
-    requires { ⌜ (1 ≤ r) × Hangs (now t) more x ⌝ }
-    ensures { λ a. ⌜ Says (now (t .entry)) x (rankOf r) (rankIn a) ⌝ }
+pub fn rank_under(t: &[u32], more: usize, x: usize, wanted: usize) -> usize
+    requires { ⌜ (4096 ≤ wanted) × Hangs (now t) more x ⌝ }
+    ensures { λ a. ⌜ Seeks (now (t .entry)) x wanted a ⌝ }
 {
-    if x == 0 { 0 } else { rank_at(t, more, x, r) }
-}
-
-// What such a number says.
-pub fn rank_said(n: usize) -> Rank
-    ensures { λ a. ⌜ a ≡ rankIn n ⌝ }
-{
-    if n < FOUND {
-        Rank::Past(n)
+    if x == 0 {
+        wanted
     } else {
-        Rank::At(n - FOUND)
+        rank_at(t, more, x, wanted)
     }
 }
 
-// The same over a sound table.
+// What such a number says.
+pub fn rank_said(wanted: usize, n: usize) -> Rank
+    requires { ⌜ n ≤ wanted ⌝ }
+    ensures { λ a. ⌜ a ≡ rankIn wanted n ⌝ }
+{
+    if n < FIRST {
+        Rank::At(n)
+    } else {
+        Rank::Past(wanted - n)
+    }
+}
+
+// The slot of the r-th smallest key of a sound table, or how many records it has.
 pub fn rank_in(t: &[u32], c: usize, r: usize) -> Rank
     requires { ⌜ (1 ≤ r) × Whole (now t) c ⌝ }
     ensures { λ a. ⌜ a ≡ rankOf r (treeIn (now (t .entry)) c) ⌝ }
 {
-    rank_said(rank_under(t, words::records(t), words::root(t), r))
+    let n = words::records(t);
+    if n < r {
+        return Rank::Past(n);
+    }
+    let root = words::root(t);
+    let wanted = r + 4095;
+    rank_said(wanted, rank_at(t, n, root, wanted))
 }
 
 // What rank answers.

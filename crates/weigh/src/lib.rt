@@ -114,8 +114,11 @@ pub fn worth_in(t: &[u32], c: usize) -> u64
 {
     let n = words::records(t);
     let root = words::root(t);
-    let all = weigh_under(t, n, root, words::size(n), top(t, root));
-    all / UNIT
+    if root == 0 {
+        0
+    } else {
+        weigh_at(t, n, root, words::size(n), top(t, root)) / UNIT
+    }
 }
 
 // worth: how far the registers are from those of a balanced tree.

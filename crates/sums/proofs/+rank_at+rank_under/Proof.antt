@@ -4,15 +4,13 @@ use native.Mathlib.Omega.{arith}
 use borrow.Fn.Kinds.{In}
 use borrow.Fn.PlainCycle.{Measures, is, falls, and}
 use Rattle.sums.proofs.Down.{Forked, in-reach, forked}
-use Rattle.sums.proofs.Ranks.{past-in, at-in, found-in, rank-leaf, rank-left, seen-few, rank-here}
-use Rattle.sums.proofs.Ranks.{right-few, rank-after}
+use Rattle.sums.proofs.Ranks.{rank-leaf, seek-left, seek-here, seek-right}
 use Rattle.sums.proofs.rank_at.Reads as at
 use Rattle.sums.proofs.rank_at.Kinds as at-kinds
 use Rattle.sums.proofs.+rank_at+rank_under.Lts-rank_at as at-lts
 use Rattle.sums.proofs.rank_under.Reads as under
 use Rattle.sums.proofs.rank_under.Kinds as under-kinds
 use Rattle.sums.proofs.+rank_at+rank_under.Lts-rank_under as under-lts
-use Rattle.sums.proofs.after.Reads as after-reads
 use Rattle.sums.proofs.fork_at.Reads as fork-at-reads
 use Rattle.sums.proofs.+rank_at+rank_under.{statement}
 use Rattle.sums.proofs.+rank_at+rank_under.Tie.{close}
@@ -42,8 +40,6 @@ sides : (t : ℕ) (c : at-lts.After-fork-at (
   fork-at-reads.Learnt,
   under-below t,
   under.Post,
-  after-reads.Asked,
-  after-reads.Learnt,
 ) (at-now t) at.Post)
     → let start = c .before .before .args in Forked (start .t .now) (start .more) (start .x) (c .fork-at .result)
 sides t c = forked (c .before .before .pre .1 .2) (omega (arith, c .before .before .pre .1 .0)) (c .fork-at .ensures)
@@ -54,8 +50,6 @@ pub +rank-at+rank-under-spec : {M : Type 1} → statement M
   fork-at-reads.Learnt,
   under-below t,
   under.Post,
-  after-reads.Asked,
-  after-reads.Learnt,
 )
     (at-now t)
     at.Post
@@ -71,46 +65,27 @@ pub +rank-at+rank-under-spec : {M : Type 1} → statement M
     -- returns
     (λ c.
     let v = c .before in
-    let found = at-in (c .if1 .taken) in
-    rw found (rank-left (sides t (v .before)) (v .before .before .before .pre .1 .1) (v .rank-under .ensures) found))
-    -- add-seen
-    (λ c. omega (arith, c .if1 .left))
-    -- add-result
-    (λ c.
-    let h = c .before .before .before .before .before .pre .1 .2 in
-    omega (arith, h .link, h .sized .most))
+    let start = v .before .before .before in
+    seek-left (start .pre .1 .2) (sides t (v .before)) (start .pre .1 .1) (v .rank-under .ensures) (c .if1 .taken))
     -- returns-2
     (λ c.
     let v = c .before .before in
-    let past = past-in (c .before .if1 .left) in
     let start = v .before .before .before in
-    rw (found-in (start .args .x))
-    (rank-here (sides t (v .before)) (start .pre .1 .1) (v .rank-under .ensures) past (c .if2 .taken)))
+    seek-here (start .pre .1 .2) (sides t (v .before)) (start .pre .1 .1) (v .rank-under .ensures) (c .if2 .taken))
     -- sub-rank-under
-    (λ c.
-    let v = c .before .before in
-    let past = past-in (c .before .if1 .left) in
-    omega (arith, seen-few (sides t (v .before)) (v .before .before .before .pre .1 .1) (v .rank-under .ensures) past))
+    (λ c. omega (arith, c .before .if1 .left))
     -- rank-under-requires-2
     (λ c κs.
     let v = c .before .before in
+    let d = sides t (v .before) in
     let start = v .before .before .before in
-    let d = sides t (v .before) in
-    let few = seen-few d (start .pre .1 .1) (v .rank-under .ensures) (past-in (c .before .if1 .left)) in
-    (omega (arith, start .pre .0, d .some), (omega (arith, few, c .if2 .left), d .on-right)))
-    -- after-requires
-    (λ c κs.
-    let v = c .before .before .before in
-    let d = sides t (v .before) in
-    let past = past-in (c .before .before .if1 .left) in
-    let few = seen-few d (v .before .before .before .pre .1 .1) (v .rank-under .ensures) past in
-    (few .0, right-few d _ (c .rank-under2 .ensures)))
+    (omega (arith, start .pre .0, d .some), (omega (arith, c .before .if1 .left, c .if2 .left), d .on-right)))
     -- returns-3
     (λ c.
-    let v = c .before .before .before .before in
-    let past = past-in (c .before .before .before .if1 .left) in
-    rank-after (sides t (v .before)) (v .before .before .before .pre .1 .1) (v .rank-under .ensures) past
-    (c .before .rank-under2 .ensures) (c .before .before .if2 .left) (c .after .ensures)))
+    let v = c .before .before .before in
+    let start = v .before .before .before in
+    seek-right (start .pre .1 .2) (sides t (v .before)) (start .pre .1 .1) (v .rank-under .ensures)
+    (c .before .before .if1 .left) (c .before .if2 .left) (c .rank-under2 .ensures)))
     λ t. under-lts.spec
     (at-below t, at.Post)
     (under-now t)

@@ -4,16 +4,14 @@ use native.Mathlib.Omega.{arith}
 use borrow.Author.Needs.{needs}
 use borrow.Fn.Kinds.{In}
 use borrow.Fn.PlainCycle.{Measures, is, falls, and}
-use Rattle.scope.specs.Sums.{totalOf}
-use Rattle.sums.proofs.Down.{Forked, in-reach, forked, says-leaf}
-use Rattle.sums.proofs.Walks.{total-few, total-here}
+use Rattle.sums.proofs.Down.{Forked, in-reach, forked}
+use Rattle.sums.proofs.Walks.{nothing-added, left-room, right-room, total-here}
 use Rattle.sums.proofs.total_at.Reads as at
 use Rattle.sums.proofs.total_at.Kinds as at-kinds
 use Rattle.sums.proofs.+total_at+total_under.Lts-total_at as at-lts
 use Rattle.sums.proofs.total_under.Reads as under
 use Rattle.sums.proofs.total_under.Kinds as under-kinds
 use Rattle.sums.proofs.+total_at+total_under.Lts-total_under as under-lts
-use Rattle.sums.proofs.add3.Reads as add3-reads
 use Rattle.sums.proofs.counted.Reads as counted-reads
 use Rattle.sums.proofs.fork_at.Reads as fork-at-reads
 use Rattle.sums.proofs.+total_at+total_under.{statement}
@@ -46,14 +44,13 @@ sides : (t : ℕ) (c : at-lts.After-fork-at (
   counted-reads.Learnt,
   under-below t,
   under.Post,
-  add3-reads.Asked,
-  add3-reads.Learnt,
 ) (at-now t) at.Post)
     → let start = c .before .before .args in Forked (start .t .now) (start .more) (start .x) (c .fork-at .result)
-sides t c = forked (c .before .before .pre .1 .1) (omega (arith, c .before .before .pre .1 .0)) (c .fork-at .ensures)
+sides t c =
+    let pre = c .before .before .pre .1 in
+    forked (pre .1 .hangs) (omega (arith, pre .0)) (c .fork-at .ensures)
 
 pub +total-at+total-under-spec : {M : Type 1} → statement M
-unfolding totalOf
 +total-at+total-under-spec = close μ-at μ-under (λ t. at-lts.spec (
   fork-at-reads.Asked,
   fork-at-reads.Learnt,
@@ -61,35 +58,38 @@ unfolding totalOf
   counted-reads.Learnt,
   under-below t,
   under.Post,
-  add3-reads.Asked,
-  add3-reads.Learnt,
 )
     (at-now t)
     at.Post
     -- fork-at-requires
-    (λ c κs. in-reach (c .before .pre .1 .1) (omega (arith, c .before .pre .1 .0)))
+    (λ c κs. in-reach (c .before .pre .1 .1 .hangs) (omega (arith, c .before .pre .1 .0)))
     -- sub-less
     (λ c. sides t c .some)
     -- counted-requires
     (λ c κs. search needs)
     -- total-under-requires
     (λ c κs.
-    let d = sides t (c .before .before) in
-    (omega (arith, c .before .before .before .before .pre .0, d .some), d .on-left))
+    let v = c .before .before in
+    let d = sides t v in
+    (omega (arith, v .before .before .pre .0, d .some), left-room (v .before .before .pre .1 .1) d))
+    -- add-total-under
+    (λ c.
+    let v = c .before .before .before in
+    let own = c .before .counted .ensures in
+    omega (arith, right-room (v .before .before .pre .1 .1) (sides t v) _ (c .total-under .ensures) own .room))
     -- total-under-requires-2
     (λ c κs.
-    let d = sides t (c .before .before .before) in
-    (omega (arith, c .before .before .before .before .before .pre .0, d .some), d .on-right))
-    -- add3-requires
-    (λ c κs.
-    let d = sides t (c .before .before .before .before) in
-    let own = c .before .before .counted .ensures in
-    omega (arith, total-few d _ (c .before .total-under .ensures) (c .total-under2 .ensures) own))
+    let v = c .before .before .before in
+    let d = sides t v in
+    let own = c .before .counted .ensures in
+    let start = v .before .before in
+    (omega (arith, start .pre .0, d .some), right-room (start .pre .1 .1) d _ (c .total-under .ensures) own))
     -- returns
     (λ c.
-    let d = sides t (c .before .before .before .before .before) in
-    let own = c .before .before .before .counted .ensures in
-    total-here d _ (c .before .before .total-under .ensures) (c .before .total-under2 .ensures) own (c .add3 .ensures)))
+    let v = c .before .before .before .before in
+    let own = c .before .before .counted .ensures in
+    let a = c .before .total-under .ensures in
+    total-here (v .before .before .pre .1 .1) (sides t v) _ a own (c .total-under2 .ensures)))
     λ t. under-lts.spec
     (at-below t, at.Post)
     (under-now t)
@@ -99,6 +99,8 @@ unfolding totalOf
     let start = c .before .before in
     (omega (arith, start .pre .0), (omega (arith, c .if1 .left), start .pre .1)))
     -- returns
-    (λ c. says-leaf _ _ (totalOf (c .before .before .args .key)) (c .if1 .taken))
+    (λ c.
+    let start = c .before .before in
+    nothing-added _ _ (start .args .sum) (start .args .key) (c .if1 .taken))
     -- returns-2
     (λ c. c .total-at .ensures)

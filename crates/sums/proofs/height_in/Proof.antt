@@ -1,6 +1,7 @@
 -- `sums::height_in` meets its contract. Assumes nothing.
+use native.Mathlib.Omega.{arith}
 use Rattle.scope.specs.Tree.{trueHeight}
-use Rattle.sums.proofs.Down.{rooted, said}
+use Rattle.sums.proofs.Down.{rooted, said, says-leaf}
 use borrow.Author.Needs.{needs}
 use Rattle.sums.proofs.height_in.Statement.{statement}
 use Rattle.sums.proofs.height_in.Tie as tie
@@ -11,12 +12,22 @@ records-requires c κs = search needs
 root-requires : tie.Need-root-requires
 root-requires c κs = search needs
 
-height-under-requires : tie.Need-height-under-requires
-height-under-requires c κs = rooted (c .before .before .before .pre) (c .root .ensures) (c .before .records .ensures)
+height-at-requires : tie.Need-height-at-requires
+height-at-requires c κs =
+    let start = c .before .before .before .before in
+    (omega (arith, c .if1 .left), rooted (start .pre) (c .before .root .ensures) (c .before .before .records .ensures))
 
 returns : tie.Need-returns
+unfolding trueHeight
 returns c =
-    said (c .before .before .before .before .pre) (c .before .root .ensures) trueHeight (c .height-under .ensures)
+    let start = c .before .before .before .before in
+    let what = trueHeight in
+    said (start .pre) (c .before .root .ensures) what (says-leaf _ _ what (c .if1 .taken))
+
+returns-2 : tie.Need-returns-2
+returns-2 c =
+    let start = c .before .before .before .before .before in
+    said (start .pre) (c .before .before .root .ensures) (trueHeight) (c .height-at .ensures)
 
 pub height-in-spec : {M : Type 1} → statement M
-height-in-spec = tie.close (tie.spec records-requires root-requires height-under-requires returns)
+height-in-spec = tie.close (tie.spec records-requires root-requires height-at-requires returns returns-2)

@@ -1,7 +1,10 @@
 -- `sums::rank_in` meets its contract. Assumes nothing.
-use mathlib.Core.Path.{_∙_}
+use Prim.Native.Nat.{_+_, _-_}
+use mathlib.Core.Path.{_≡_, _∙_}
+use native.Mathlib.Omega.{arith}
 use Rattle.scope.specs.Sums.{rankOf}
 use Rattle.sums.proofs.Down.{rooted, said}
+use Rattle.sums.proofs.Ranks.{rank-over, some-root}
 use borrow.Author.Needs.{needs}
 use Rattle.sums.proofs.rank_in.Statement.{statement}
 use Rattle.sums.proofs.rank_in.Tie as tie
@@ -9,24 +12,47 @@ use Rattle.sums.proofs.rank_in.Tie as tie
 records-requires : tie.Need-records-requires
 records-requires c κs = search needs
 
+returns : tie.Need-returns
+returns c = rank-over (c .before .before .before .pre .1) (c .before .records .ensures) (c .if1 .taken)
+
 root-requires : tie.Need-root-requires
 root-requires c κs = search needs
 
-rank-under-requires : tie.Need-rank-under-requires
-rank-under-requires c κs = (
-  c .before .before .before .pre .0,
-  rooted (c .before .before .before .pre .1) (c .root .ensures)
-      (c .before .records .ensures),
-)
+add-wanted : tie.Need-add-wanted
+add-wanted c =
+    let v = c .before in
+    let h = rooted (v .before .before .before .pre .1) (c .root .ensures) (v .before .records .ensures) in
+    omega (arith, v .if1 .left, h .most)
+
+rank-at-requires : tie.Need-rank-at-requires
+rank-at-requires c κs =
+    let v = c .before in
+    let start = v .before .before .before in
+    let h = rooted (start .pre .1) (c .root .ensures) (v .before .records .ensures) in
+    let some = some-root (start .pre .1) (v .before .records .ensures) (c .root .ensures)
+    (omega (arith, start .pre .0, v .if1 .left)) in
+    (some, omega (arith, start .pre .0), h)
 
 rank-said-requires : tie.Need-rank-said-requires
-rank-said-requires c κs = search needs
+rank-said-requires c κs = c .rank-at .ensures .most
 
-returns : tie.Need-returns
-returns c =
-    let start = c .before .before .before .before .before in
-    c .rank-said .ensures
-    ∙ said (start .pre .1) (c .before .before .root .ensures) (rankOf (start .args .r)) (c .before .rank-under .ensures)
+returns-2 : tie.Need-returns-2
+returns-2 c =
+    let v = c .before .before .before in
+    let start = v .before .before .before in
+    let r = start .args .r in
+    let e : r + 4095 - 4095 ≡ r = omega arith in
+    let found = rw e at (c .before .rank-at .ensures .says) in
+    c .rank-said .ensures ∙ said (start .pre .1) (c .before .before .root .ensures) (rankOf r) found
 
 pub rank-in-spec : {M : Type 1} → statement M
-rank-in-spec = tie.close (tie.spec records-requires root-requires rank-under-requires rank-said-requires returns)
+rank-in-spec =
+    tie.close
+    (tie.spec
+    records-requires
+    returns
+    root-requires
+    add-wanted
+    rank-at-requires
+    rank-said-requires
+    returns-2)

@@ -1,6 +1,8 @@
 -- `sums::total_in` meets its contract. Assumes nothing.
+use native.Mathlib.Omega.{arith}
 use Rattle.scope.specs.Sums.{totalOf}
-use Rattle.sums.proofs.Down.{rooted, said}
+use Rattle.sums.specs.Hangs.{totalOn}
+use Rattle.sums.proofs.Down.{rooted, said, says-leaf}
 use borrow.Author.Needs.{needs}
 use Rattle.sums.proofs.total_in.Statement.{statement}
 use Rattle.sums.proofs.total_in.Tie as tie
@@ -11,13 +13,24 @@ records-requires c κs = search needs
 root-requires : tie.Need-root-requires
 root-requires c κs = search needs
 
-total-under-requires : tie.Need-total-under-requires
-total-under-requires c κs = rooted (c .before .before .before .pre) (c .root .ensures) (c .before .records .ensures)
+total-at-requires : tie.Need-total-at-requires
+total-at-requires c κs =
+    let start = c .before .before .before .before in
+    let h = rooted (start .pre) (c .before .root .ensures) (c .before .before .records .ensures) in
+    (omega (arith, c .if1 .left), record { hangs = h; room = omega (arith, h .few, h .most) })
 
 returns : tie.Need-returns
+unfolding totalOf
 returns c =
-    said (c .before .before .before .before .pre) (c .before .root .ensures) (totalOf
-    (c .before .before .before .before .args .key)) (c .total-under .ensures)
+    let start = c .before .before .before .before in
+    let what = totalOf (start .args .key) in
+    said (start .pre) (c .before .root .ensures) what (says-leaf _ _ what (c .if1 .taken))
+
+returns-2 : tie.Need-returns-2
+returns-2 c =
+    let start = c .before .before .before .before .before in
+    let key = start .args .key in
+    omega (arith, said (start .pre) (c .before .before .root .ensures) (totalOn 0 key) (c .total-at .ensures))
 
 pub total-in-spec : {M : Type 1} → statement M
-total-in-spec = tie.close (tie.spec records-requires root-requires total-under-requires returns)
+total-in-spec = tie.close (tie.spec records-requires root-requires total-at-requires returns returns-2)
