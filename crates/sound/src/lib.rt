@@ -96,6 +96,18 @@ pub fn under(
     }
 }
 
+// The same from the root on, over all keys. It calls `scan`, and not `under`, which then costs no call of its own.
+pub fn start(t: &[u32], m: &mut [u64; 64], c: usize, more: usize, x: usize) -> usize
+    requires { ⌜ Scanning (now t) (now m) c more x ⌝ }
+    ensures { λ r. ⌜ Scanned (now (t .entry)) (now (m .entry)) (now (m .exit)) c more x 0 4294967296 (scanOf r) ⌝ }
+{
+    if x == 0 {
+        more
+    } else {
+        scan(t, m, c, more, x, 0, PAST_KEYS)
+    }
+}
+
 // Whether slot k was reached, or is eight zeros.
 pub fn settled(t: &[u32], m: &[u64; 64], k: usize) -> bool
     requires { ⌜ InTable (now t) k × (k ≤ 4095) ⌝ }
@@ -133,7 +145,7 @@ pub fn sound(t: &[u32], c: usize) -> bool
         let mut m = [0u64; 64];
         let n = words::records(t);
         let root = words::root(t);
-        let missing = under(t, &mut m, c, n, root, 0, PAST_KEYS);
+        let missing = start(t, &mut m, c, n, root);
         if missing == 0 {
             rest_blank(t, &m, c)
         } else {
