@@ -2,9 +2,9 @@
 pub use amending::amend;
 pub use fire::fire;
 pub use posting::post;
+pub use ranks::rank;
 pub use removal::drop;
 pub use sound::check;
-pub use sums::rank;
 pub use sums::total;
 pub use tidy::tidy;
 pub use walk::find;

@@ -15,7 +15,7 @@ use Rattle.scope.specs.declared.outcome.Rank.the-variants.{At, Past}
 use Rattle.words.proofs.Laws.{in-table, fit-left, fit-right, header-root, header-count}
 use Rattle.sound.specs.Whole.{Whole}
 use Rattle.sound.proofs.Spell.{tree-in}
-use Rattle.sums.proofs.Pick.{order-node, order-size}
+use Rattle.ranks.proofs.Pick.{order-node, order-size}
 
 -- each of some slots is one of c
 unfoldable pub Within : ℕ → List ℕ → Type 0

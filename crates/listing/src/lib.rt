@@ -18,7 +18,7 @@ fn put_rank(t: &[u32], c: usize, r: usize, out: &mut [u8], at: usize) -> usize
     requires { ⌜ (1 ≤ r) × Whole (now t) c × (at + recordRoom ≤ length (now out)) ⌝ }
     ensures { λ n. ⌜ PutIn (now (out .entry)) at (rankLine (now (t .entry)) (rankOf r (treeIn (now (t .entry)) c))) (now (out .exit)) n recordRoom ⌝ }
 {
-    match sums::rank_in(t, c, r) {
+    match ranks::rank_in(t, c, r) {
         Rank::At(k) => printing::put_record(out, at, k, words::slot_at(t, k)),
         Rank::Past(_) => at,
     }

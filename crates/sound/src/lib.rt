@@ -97,7 +97,7 @@ pub fn under(
 }
 
 // The same from the root on, over all keys. It calls `scan`, and not `under`, which then costs no call of its own.
-pub fn start(t: &[u32], m: &mut [u64; 64], c: usize, more: usize, x: usize) -> usize
+pub fn from_root(t: &[u32], m: &mut [u64; 64], c: usize, more: usize, x: usize) -> usize
     requires { ⌜ Scanning (now t) (now m) c more x ⌝ }
     ensures { λ r. ⌜ Scanned (now (t .entry)) (now (m .entry)) (now (m .exit)) c more x 0 4294967296 (scanOf r) ⌝ }
 {
@@ -145,7 +145,7 @@ pub fn sound(t: &[u32], c: usize) -> bool
         let mut m = [0u64; 64];
         let n = words::records(t);
         let root = words::root(t);
-        let missing = start(t, &mut m, c, n, root);
+        let missing = from_root(t, &mut m, c, n, root);
         if missing == 0 {
             rest_blank(t, &m, c)
         } else {

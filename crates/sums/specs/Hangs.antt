@@ -1,18 +1,16 @@
 -- A tree that hangs at a link, and what a walk of it says. Assumes nothing: these are statements.
-use Prim.Native.Nat.{ℕ, _+_, _-_, _*_, _≤_}
+use Prim.Native.Nat.{ℕ, _+_, _*_, _≤_}
 use mathlib.Core.Path.{_≡_}
 use mathlib.Core.Bool.{true, cond}
 use mathlib.Core.List.{List}
-use lib.Dec.{leb, ltb}
+use lib.Dec.{leb}
 use Rattle.scope.specs.Table.{word, changeWord, slotAt}
 use Rattle.scope.specs.Tree.{Tree, size, trueHeight}
 use Rattle.scope.specs.Sound.{Spells, treeIn}
 use Rattle.scope.specs.Answers.{accepted, answering}
-use Rattle.scope.specs.Sums.{soundGate, totalOf, rankOf}
+use Rattle.scope.specs.Sums.{soundGate, totalOf}
 use Rattle.scope.specs.declared.answer.Answer.{Answer}
 use Rattle.scope.specs.declared.slot.Slot.{Slot}
-use Rattle.scope.specs.declared.outcome.Rank.{Rank}
-use Rattle.scope.specs.declared.outcome.Rank.the-variants.{At, Past}
 use Rattle.words.specs.Ready.{Sized}
 use Rattle.sums.specs.declared.Fork.{Fork}
 
@@ -51,12 +49,3 @@ pub record Adding (t : List ℕ) (more x sum : ℕ) : Type 0 where
 -- a sum and the pieces of all records with a key of at most K
 abbrev pub totalOn : ℕ → ℕ → Tree → ℕ
 totalOn sum K T = sum + totalOf K T
-
--- a rank as one number, where rank r is wanted as r + 4095: a slot, or what is wanted after so many
-unfoldable pub rankIn : ℕ → ℕ → Rank
-rankIn wanted n = cond (ltb n 4096) (At n) (Past (wanted - n))
-
--- n is what a walk from link x says
-pub record Seeks (t : List ℕ) (x wanted n : ℕ) : Type 0 where
-  pub most : n ≤ wanted
-  pub says : Says t x (rankOf (wanted - 4095)) (rankIn wanted n)

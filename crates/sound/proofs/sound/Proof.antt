@@ -20,8 +20,8 @@ records-requires c κs = search needs
 root-requires : tie.Need-root-requires
 root-requires c κs = search needs
 
-start-requires : tie.Need-start-requires
-start-requires c κs =
+from-root-requires : tie.Need-from-root-requires
+from-root-requires c κs =
     let v = c .before .before .before in
     let start = v .before .before .before in
     let good = sym (v .before .header-ok .ensures) ∙ v .if1 .taken in
@@ -39,7 +39,7 @@ returns : tie.Need-returns
 returns c =
     let v = c .before .before .before .before .before in
     let start = v .before .before .before .before .before in
-    let told = rw (v .before .records .ensures, v .root .ensures) at (c .before .before .before .start .ensures) in
+    let told = rw (v .before .records .ensures, v .root .ensures) at (c .before .before .before .from-root .ensures) in
     let small = v .before .before .before .before .shared-slice-known .given in
     let header = sym (v .before .before .before .header-ok .ensures) ∙ v .before .before .if1 .taken in
     by-pass _ _ (λ i. omega (arith, small i)) _ _ no-marks (start .pre .most) header _ (c .before .before .if2 .taken) told
@@ -49,7 +49,7 @@ returns-2 : tie.Need-returns-2
 returns-2 c =
     let v = c .before .before .before in
     let start = v .before .before .before .before .before in
-    let told = rw (v .before .records .ensures, v .root .ensures) at (c .before .start .ensures) in
+    let told = rw (v .before .records .ensures, v .root .ensures) at (c .before .from-root .ensures) in
     let small = v .before .before .before .before .shared-slice-known .given in
     sym (by-missing _ _ (λ i. omega (arith, small i)) _ _ no-marks (start .pre .most) _ (c .if2 .left) told)
 
@@ -63,7 +63,7 @@ sound-spec =
     header-ok-requires
     records-requires
     root-requires
-    start-requires
+    from-root-requires
     rest-blank-requires
     returns
     returns-2

@@ -1,9 +1,9 @@
--- `sums::ranked` meets its contract. Assumes nothing.
+-- `ranks::ranked` meets its contract. Assumes nothing.
 use Rattle.scope.specs.Sums.{ranked}
 use mathlib.Core.Path.{sym}
 use borrow.Author.Needs.{needs}
-use Rattle.sums.proofs.ranked.Statement.{statement}
-use Rattle.sums.proofs.ranked.Tie as tie
+use Rattle.ranks.proofs.ranked.Statement.{statement}
+use Rattle.ranks.proofs.ranked.Tie as tie
 
 enum-known-found : tie.Need-enum-known-found
 enum-known-found c = search needs

@@ -1,8 +1,8 @@
--- `sound::start` meets its contract. Assumes nothing.
+-- `sound::from_root` meets its contract. Assumes nothing.
 use native.Mathlib.Omega.{arith}
 use Rattle.sound.proofs.Steps.{at-end, is-left}
-use Rattle.sound.proofs.start.Statement.{statement}
-use Rattle.sound.proofs.start.Tie as tie
+use Rattle.sound.proofs.from_root.Statement.{statement}
+use Rattle.sound.proofs.from_root.Tie as tie
 
 scan-requires : tie.Need-scan-requires
 scan-requires c κs = (omega (arith, c .before .if1 .left), c .before .before .before .pre)
@@ -15,5 +15,5 @@ returns c =
 returns-2 : tie.Need-returns-2
 returns-2 c = c .scan .ensures
 
-pub start-spec : {M : Type 1} → statement M
-start-spec = tie.close (tie.spec scan-requires returns returns-2)
+pub from-root-spec : {M : Type 1} → statement M
+from-root-spec = tie.close (tie.spec scan-requires returns returns-2)

@@ -13,11 +13,12 @@ use Rattle.sound.proofs.Spell.{tree-in}
 use Rattle.scope.specs.Sums.{slotsInOrder, pick, rankOf}
 use Rattle.scope.specs.declared.outcome.Rank.{Rank}
 use Rattle.scope.specs.declared.outcome.Rank.the-variants.{At, Past}
 use Rattle.sums.specs.declared.Fork.{Fork}
-use Rattle.sums.specs.Hangs.{Hangs, Says, rankIn, Seeks}
+use Rattle.sums.specs.Hangs.{Hangs, Says}
+use Rattle.ranks.specs.Ranks.{rankIn, Seeks}
 use Rattle.sums.proofs.Down.{Forked, said-at, at-leaf, says-leaf, says-fork}
-use Rattle.sums.proofs.Pick.{after, order-node, order-size, pick-past, past-is}
-use Rattle.sums.proofs.Pick.{pick-left, pick-here, pick-after}
+use Rattle.ranks.proofs.Pick.{after, order-node, order-size, pick-past, past-is}
+use Rattle.ranks.proofs.Pick.{pick-left, pick-here, pick-after}
 
 -- what a number below 4,096 says, and one from there on
 pub at-in : (w : ℕ) {n : ℕ} → n < 4096 → rankIn w n ≡ At n

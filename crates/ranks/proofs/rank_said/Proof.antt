@@ -1,9 +1,9 @@
--- `sums::rank_said` meets its contract. Assumes nothing.
+-- `ranks::rank_said` meets its contract. Assumes nothing.
 use mathlib.Core.Path.{sym}
 use borrow.Author.Needs.{needs}
-use Rattle.sums.proofs.Ranks.{past-in, at-in}
-use Rattle.sums.proofs.rank_said.Statement.{statement}
-use Rattle.sums.proofs.rank_said.Tie as tie
+use Rattle.ranks.proofs.Seeking.{past-in, at-in}
+use Rattle.ranks.proofs.rank_said.Statement.{statement}
+use Rattle.ranks.proofs.rank_said.Tie as tie
 
 sub-t5 : tie.Need-sub-t5
 sub-t5 c = search needs

@@ -1,19 +1,19 @@
--- `sums::rank_at` and `sums::rank_under` meet their contracts. Assumes nothing.
+-- `ranks::rank_at` and `ranks::rank_under` meet their contracts. Assumes nothing.
 use Prim.Native.Nat.{ℕ, _+_, _*_, _<_}
 use native.Mathlib.Omega.{arith}
 use borrow.Fn.Kinds.{In}
 use borrow.Fn.PlainCycle.{Measures, is, falls, and}
 use Rattle.sums.proofs.Down.{Forked, in-reach, forked}
-use Rattle.sums.proofs.Ranks.{rank-leaf, seek-left, seek-here, seek-right}
-use Rattle.sums.proofs.rank_at.Reads as at
-use Rattle.sums.proofs.rank_at.Kinds as at-kinds
-use Rattle.sums.proofs.+rank_at+rank_under.Lts-rank_at as at-lts
-use Rattle.sums.proofs.rank_under.Reads as under
-use Rattle.sums.proofs.rank_under.Kinds as under-kinds
-use Rattle.sums.proofs.+rank_at+rank_under.Lts-rank_under as under-lts
+use Rattle.ranks.proofs.Seeking.{rank-leaf, seek-left, seek-here, seek-right}
+use Rattle.ranks.proofs.rank_at.Reads as at
+use Rattle.ranks.proofs.rank_at.Kinds as at-kinds
+use Rattle.ranks.proofs.+rank_at+rank_under.Lts-rank_at as at-lts
+use Rattle.ranks.proofs.rank_under.Reads as under
+use Rattle.ranks.proofs.rank_under.Kinds as under-kinds
+use Rattle.ranks.proofs.+rank_at+rank_under.Lts-rank_under as under-lts
 use Rattle.sums.proofs.fork_at.Reads as fork-at-reads
-use Rattle.sums.proofs.+rank_at+rank_under.{statement}
-use Rattle.sums.proofs.+rank_at+rank_under.Tie.{close}
+use Rattle.ranks.proofs.+rank_at+rank_under.{statement}
+use Rattle.ranks.proofs.+rank_at+rank_under.Tie.{close}
 
 -- the slots that may still be reached are fewer at each slot, and a link comes before its slot
 abbrev μ-at : Measures 1 at-kinds.ps ℕ

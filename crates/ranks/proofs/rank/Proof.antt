@@ -1,4 +1,4 @@
--- `sums::rank` meets its contract. Assumes nothing.
+-- `ranks::rank` meets its contract. Assumes nothing.
 use mathlib.Core.Path.{sym}
 use native.Mathlib.Omega.{arith}
 use lib.Dec.{eqb}
@@ -6,8 +6,8 @@ use borrow.Author.Tests.{eqb-false, not-true}
 use Rattle.scope.specs.Sums.{rankAnswer}
 use Rattle.sound.proofs.Opened.{opened, asked, headed}
 use borrow.Author.Needs.{needs}
-use Rattle.sums.proofs.rank.Statement.{statement}
-use Rattle.sums.proofs.rank.Tie as tie
+use Rattle.ranks.proofs.rank.Statement.{statement}
+use Rattle.ranks.proofs.rank.Tie as tie
 
 enter-sound-requires : tie.Need-enter-sound-requires
 enter-sound-requires c κs = search needs

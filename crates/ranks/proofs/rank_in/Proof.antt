@@ -1,13 +1,13 @@
--- `sums::rank_in` meets its contract. Assumes nothing.
+-- `ranks::rank_in` meets its contract. Assumes nothing.
 use Prim.Native.Nat.{_+_, _-_}
 use mathlib.Core.Path.{_≡_, _∙_}
 use native.Mathlib.Omega.{arith}
 use Rattle.scope.specs.Sums.{rankOf}
 use Rattle.sums.proofs.Down.{rooted, said}
-use Rattle.sums.proofs.Ranks.{rank-over, some-root}
+use Rattle.ranks.proofs.Seeking.{rank-over, some-root}
 use borrow.Author.Needs.{needs}
-use Rattle.sums.proofs.rank_in.Statement.{statement}
-use Rattle.sums.proofs.rank_in.Tie as tie
+use Rattle.ranks.proofs.rank_in.Statement.{statement}
+use Rattle.ranks.proofs.rank_in.Tie as tie
 
 records-requires : tie.Need-records-requires
 records-requires c κs = search needs

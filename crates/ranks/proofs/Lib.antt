@@ -1,0 +1,3 @@
+-- Laws that the functions of `ranks` lean on.
+pub mod Pick
+pub mod Seeking

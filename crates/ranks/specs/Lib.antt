@@ -1,0 +1,2 @@
+-- What the walk for a rank says.
+pub mod Ranks
