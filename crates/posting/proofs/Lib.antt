@@ -1,4 +1,3 @@
 -- Laws that the functions of `posting` lean on.
-pub mod Free
 pub mod Hanging
 pub mod Written

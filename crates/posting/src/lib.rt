@@ -15,29 +15,13 @@ ghost use Rattle.scope.specs.declared.outcome.Posting.the-variants.{Hang};
 ghost use Rattle.words.specs.Ready.{Ready};
 ghost use Rattle.walk.specs.Walked.{Inside};
 ghost use Rattle.settling.specs.Ends.{Does};
-ghost use Rattle.settling.specs.Planned.{Free, Hangable, Planned};
+ghost use Rattle.settling.specs.Planned.{Hangable, Planned};
 
 // Key, pieces and state are in range.
 pub fn record_ok(key: u32, pieces: u32, state: u32) -> bool
     ensures { λ r. ⌜ r ≡ recordOk key pieces state ⌝ }
 {
     (key != 0) & gate::pieces_ok(pieces) & gate::state_ok(state)
-}
-
-// The lowest free slot, 0 for none.
-pub fn free_slot(t: &[u32], c: usize) -> usize
-    requires { ⌜ Ready (now t) c ⌝ }
-    ensures { λ r. ⌜ Free (now (t .entry)) c r ⌝ }
-{
-    let end = c + 1;
-    let mut k: usize = 1;
-    while k < end {
-        if words::state_at(t, k) == State::FREE {
-            return k;
-        }
-        k += 1;
-    }
-    0
 }
 
 // Whether the lowest free slot k can be filled: test 6, and what follows it.
@@ -67,7 +51,7 @@ pub fn posting_at(t: &[u32], c: usize, w: Walk) -> Posting
     match w {
         Walk::Damage => Posting::Refuse(Refusal::Damaged),
         Walk::Hit { .. } => Posting::Refuse(Refusal::KeyPresent),
-        Walk::Miss { link, .. } => hang_at(t, c, link, free_slot(t, c)),
+        Walk::Miss { link, .. } => hang_at(t, c, link, words::free_slot(t, c)),
     }
 }
 

@@ -4,7 +4,6 @@ use mathlib.Core.Path.{_≡_}
 use mathlib.Core.List.{List}
 use Rattle.scope.specs.Numbers.{lastChange}
 use Rattle.scope.specs.Table.{word, countWord, changeWord}
-use Rattle.scope.specs.Post.{freeSlot}
 use Rattle.scope.specs.declared.side.Link.{Link}
 use Rattle.scope.specs.declared.outcome.Posting.{Posting}
 use Rattle.scope.specs.declared.outcome.Posting.the-variants as posting
@@ -47,8 +46,3 @@ pub record Planned (t : List ℕ) (plan r : Posting) : Type 0 where
 pub record AmendPlanned (t : List ℕ) (plan r : Amending) : Type 0 where
   pub is : r ≡ plan
   pub can : CanAmend t r
-
--- the lowest free slot, 0 for none
-pub record Free (t : List ℕ) (c r : ℕ) : Type 0 where
-  pub is : r ≡ freeSlot t c
-  pub most : r ≤ c

@@ -1,2 +1,3 @@
 -- Laws on the definitions that `words` computes.
 pub mod Laws
+pub mod Seeking

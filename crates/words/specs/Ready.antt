@@ -4,6 +4,7 @@ use mathlib.Core.Path.{_≡_}
 use mathlib.Core.List.{List}
 use lib.ListN.{length}
 use Rattle.scope.specs.Table.{word, rootWord, countWord}
+use Rattle.scope.specs.Post.{freeSlot}
 
 -- the four words of the header are there
 abbrev pub Headed : List ℕ → Type 0
@@ -20,3 +21,8 @@ pub record Ready (t : List ℕ) (c : ℕ) : Type 0 where
   pub sized : Sized t c
   pub root : word t rootWord ≤ c
   pub count : word t countWord ≤ c
+
+-- the lowest free slot, 0 for none
+pub record Free (t : List ℕ) (c r : ℕ) : Type 0 where
+  pub is : r ≡ freeSlot t c
+  pub most : r ≤ c

@@ -1,5 +1,6 @@
 // Reading and writing the lent words: the only code that knows where a word stands.
 pub mod read;
+pub mod seek;
 pub mod write;
 
 pub use read::change;
@@ -14,9 +15,9 @@ pub use read::size;
 pub use read::slot_at;
 pub use read::son;
 pub use read::son_word;
-pub use read::state_at;
 pub use read::wide;
 pub use read::zero;
+pub use seek::free_slot;
 pub use write::put_change;
 pub use write::put_link;
 pub use write::put_link_word;

@@ -79,14 +79,6 @@ pub fn slot_at(t: &[u32], k: usize) -> Slot
     }
 }
 
-// A slot's state alone.
-pub fn state_at(t: &[u32], k: usize) -> u32
-    requires { ⌜ InTable (now t) k ⌝ }
-    ensures { λ r. ⌜ r ≡ slotAt (now (t .entry)) k .state ⌝ }
-{
-    t[4 + Slot::WORDS * (k - 1)]
-}
-
 // A slot's son on a side, 0 for none.
 pub fn son(s: Slot, side: Side) -> usize
     ensures { λ r. ⌜ r ≡ son s side ⌝ }

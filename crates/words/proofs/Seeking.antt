@@ -1,12 +1,13 @@
 -- How the search for the lowest free slot goes on, and how it ends. Assumes nothing.
-use Prim.Native.Nat.{ℕ, suc, _+_, _-_, _≤_, _<_}
-use mathlib.Core.Path.{_≡_, sym, _∙_, ap}
+use Prim.Native.Nat.{ℕ, suc, _+_, _-_, _/_, _%_, _≤_, _<_}
+use mathlib.Core.Path.{_≡_, refl, sym, _∙_, ap}
 use mathlib.Core.List.{List}
 use native.Mathlib.Omega.{arith}
 use borrow.Author.Tests.{eq-eqb, ne-eqb}
-use Rattle.scope.specs.Table.{slotAt}
+use lib.ListN.{length}
+use Rattle.scope.specs.Table.{word, slotAt}
 use Rattle.scope.specs.Post.{freeFrom, freeSlot}
-use Rattle.settling.specs.Planned.{Free}
+use Rattle.words.specs.Ready.{Sized, Free}
 
 -- the slots before k are taken: what is left to search gives the whole answer
 pub record Seeking (t : List ℕ) (c k : ℕ) : Type 0 where
@@ -47,3 +48,28 @@ module _ {t : List ℕ} {c k : ℕ} (so-far : Seeking t c k) where
 
   pub seek-end : c < k → Free t c 0
   seek-end lt = record { is = sym (free-none t (c + 1 - k) k (omega arith)) ∙ so-far .rest; most = omega arith }
+
+-- the search at place b, which is the first word of a slot
+pub record AtPlace (t : List ℕ) (c b : ℕ) : Type 0 where
+  pub seeking : Seeking t c (b / 8 + 1)
+  pub place : b % 8 ≡ 4
+
+pub place-start : (t : List ℕ) (c : ℕ) → AtPlace t c 4
+place-start t c = record { seeking = seek-start t c; place = refl }
+
+module _ {t : List ℕ} {c b : ℕ} (z : Sized t c) (a : AtPlace t c b) where
+  state-there : slotAt t (b / 8 + 1) .state ≡ word t b
+  unfolding slotAt
+  state-there = ap (word t) (omega (arith, a .place))
+
+  pub place-here : b < length t → word t b ≡ 0 → Free t c (b / 8 + 1)
+  place-here h e = seek-here (a .seeking) (omega (arith, a .place, z .room)) (state-there ∙ e)
+
+  pub place-on : b < length t → (word t b ≡ 0 → ⊥) → AtPlace t c (b + 8)
+  place-on h ne =
+      let on = seek-on (a .seeking) (omega (arith, a .place, z .room)) (λ e. ne (sym state-there ∙ e)) in
+      let same : b / 8 + 1 + 1 ≡ (b + 8) / 8 + 1 = omega arith in
+      record { seeking = rw same at on; place = omega (arith, a .place) }
+
+  pub place-end : length t ≤ b → Free t c 0
+  place-end h = seek-end (a .seeking) (omega (arith, a .place, z .room))

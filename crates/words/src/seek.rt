@@ -1,0 +1,19 @@
+// The search for a free slot, place by place.
+use scope::Slot;
+use scope::State;
+ghost use Rattle.words.specs.Ready.{Sized, Free};
+
+// The lowest free slot, 0 for none.
+pub fn free_slot(t: &[u32], c: usize) -> usize
+    requires { ⌜ Sized (now t) c ⌝ }
+    ensures { λ r. ⌜ Free (now (t .entry)) c r ⌝ }
+{
+    let mut b: usize = 4;
+    while b < t.len() {
+        if t[b] == State::FREE {
+            return b / Slot::WORDS + 1;
+        }
+        b += Slot::WORDS;
+    }
+    0
+}
