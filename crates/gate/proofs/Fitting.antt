@@ -11,7 +11,7 @@ use Rattle.scope.specs.Numbers.{mostHeight}
 use Rattle.scope.specs.Fit.{stateOk, piecesOk, linkOk, fitSlot}
 use Rattle.scope.specs.declared.slot.Slot.{Slot}
 use Rattle.scope.proofs.Bools.{and-l, and-r}
-use Rattle.gate.specs.Parts.{burdenOf, besideOk, registersOk, endsOk}
+use Rattle.gate.specs.Parts.{burdenOf, besideOk, registersOk, endsOk, recordOk, linksOk}
 
 -- two tests that pass alike
 same : (a b : Bool) → (a ≡ true → b ≡ true) → (b ≡ true → a ≡ true) → a ≡ b
@@ -80,31 +80,37 @@ registers-together s =
     or-within (s .lefth + burdenOf (s .left)) (s .righth + burdenOf (s .right))
     ∙ rw (beside (s .left) (s .lefth), beside (s .right) (s .righth)) refl
 
-and-none : (x : Bool) → (x && false) ≡ false
-and-none true = refl
-and-none false = refl
-
-and-all : (x : Bool) → (x && true) ≡ x
-and-all true = refl
-and-all false = refl
-
 -- the same tests in another order
 regroup : (e z k p l r h i j m : Bool)
-    → ((e && z) && k && p && l && r && ((h && i) && (j && m))) ≡ (e && k && p && (l && h && i) && (r && j && m) && z)
-regroup false z k p l r h i j m = refl
-regroup true false k p l r h i j m = sym (and-none (k && p && (l && h && i) && (r && j && m)))
-regroup true true false p l r h i j m = refl
-regroup true true true false l r h i j m = refl
-regroup true true true true false r h i j m = refl
-regroup true true true true true false false i j m = refl
-regroup true true true true true false true false j m = refl
-regroup true true true true true false true true j m = refl
-regroup true true true true true true h i j m = sym (and-all ((h && i) && (j && m)))
+    → (((h && i) && (j && m)) && (p && ((e && z) && k)) && (l && r)) ≡ (e && k && p && (l && h && i) && (r && j && m) && z)
+regroup e z k p l r h i j m =
+    same _ _
+    (λ x.
+    let y = and-l (((h && i) && (j && m)) && (p && ((e && z) && k))) (l && r) x in
+    let lr = and-r (((h && i) && (j && m)) && (p && ((e && z) && k))) (l && r) x in
+    let hijm = and-l ((h && i) && (j && m)) (p && ((e && z) && k)) y in
+    let pezk = and-r ((h && i) && (j && m)) (p && ((e && z) && k)) y in
+    let ezk = and-r p ((e && z) && k) pezk in
+    let ez = and-l (e && z) k ezk in
+    let hi = and-l (h && i) (j && m) hijm in
+    let jm = and-r (h && i) (j && m) hijm in
+    both (both (both (both (both (and-l e z ez) (and-r (e && z) k ezk)) (and-l p ((e && z) && k) pezk))
+    (both (both (and-l l r lr) (and-l h i hi)) (and-r h i hi))) (both (both (and-r l r lr) (and-l j m jm)) (and-r j m jm))) (and-r e z ez))
+    (λ x.
+    let y = and-l (e && k && p && (l && h && i) && (r && j && m)) z x in
+    let rjm = and-r (e && k && p && (l && h && i)) (r && j && m) y in
+    let w = and-l (e && k && p && (l && h && i)) (r && j && m) y in
+    let lhi = and-r (e && k && p) (l && h && i) w in
+    let ekp = and-l (e && k && p) (l && h && i) w in
+    let ek = and-l (e && k) p ekp in
+    let lh = and-l (l && h) i lhi in
+    let rj = and-l (r && j) m rjm in
+    both (both (both (both (and-r l h lh) (and-r (l && h) i lhi)) (both (and-r r j rj) (and-r (r && j) m rjm)))
+    (both (and-r (e && k) p ekp) (both (both (and-l e k ek) (and-r (e && k && p && (l && h && i) && (r && j && m)) z x)) (and-r e k ek))))
+    (both (and-l l h lh) (and-l r j rj)))
 
 -- the whole test in the order of the code
-pub fit-together : (c : ℕ) (s : Slot)
-    → (endsOk s && not (eqb (s .key) 0) && piecesOk (s .pieces) && leb (s .left) c && leb (s .right) c && registersOk s)
-    ≡ fitSlot c s
+pub fit-together : (c : ℕ) (s : Slot) → (recordOk s && linksOk c s) ≡ fitSlot c s
 unfolding fitSlot linkOk
 fit-together c s =
     regroup (stateOk (s .state)) (eqb (s .last) 0) (not (eqb (s .key) 0)) (piecesOk (s .pieces)) (leb (s .left) c)

@@ -9,5 +9,7 @@ pub use call::refuse;
 pub use tests::blank;
 pub use tests::fit;
 pub use tests::header_ok;
+pub use tests::links_ok;
 pub use tests::pieces_ok;
+pub use tests::record_ok;
 pub use tests::state_ok;

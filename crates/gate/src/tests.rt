@@ -7,7 +7,7 @@ use words::root;
 use words::zero;
 ghost use mathlib.Core.Path.{_≡_};
 ghost use Rattle.scope.specs.Fit.{stateOk, piecesOk, fitSlot, blankSlot, headerOk};
-ghost use Rattle.gate.specs.Parts.{burdenOf, registersOk, endsOk};
+ghost use Rattle.gate.specs.Parts.{burdenOf, registersOk, endsOk, recordOk, linksOk};
 ghost use Rattle.words.specs.Ready.{Headed};
 
 pub fn state_ok(s: u32) -> bool
@@ -46,15 +46,24 @@ pub fn ends_ok(s: Slot) -> bool
     (ends == State::POURED as u64) | (ends == State::REMELT as u64)
 }
 
+// What a slot tells by itself: its registers, pieces, ends and key.
+pub fn record_ok(s: Slot) -> bool
+    ensures { λ r. ⌜ r ≡ recordOk s ⌝ }
+{
+    registers_ok(s) && (pieces_ok(s.pieces) && (ends_ok(s) && s.key != 0))
+}
+
+// Both links lead into the table, or nowhere.
+pub fn links_ok(c: usize, s: Slot) -> bool
+    ensures { λ r. ⌜ r ≡ linksOk c s ⌝ }
+{
+    s.left as usize <= c && s.right as usize <= c
+}
+
 pub fn fit(c: usize, s: Slot) -> bool
     ensures { λ r. ⌜ r ≡ fitSlot c s ⌝ }
 {
-    ends_ok(s)
-        & (s.key != 0)
-        & pieces_ok(s.pieces)
-        & (s.left as usize <= c)
-        & (s.right as usize <= c)
-        & registers_ok(s)
+    record_ok(s) && links_ok(c, s)
 }
 
 // Eight zeros.

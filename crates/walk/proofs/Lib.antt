@@ -1,3 +1,3 @@
 -- Laws of the walk.
-pub mod Going
+pub mod Visits
 pub mod Started

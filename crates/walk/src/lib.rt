@@ -13,7 +13,7 @@ ghost use lib.ListN.{length, replicate};
 ghost use Rattle.scope.specs.Walk.{stepOf};
 ghost use Rattle.scope.specs.Find.{startAnswer, startTable, foundIn, findAnswer};
 ghost use Rattle.words.specs.Ready.{Sized, Ready};
-ghost use Rattle.walk.specs.Walked.{Walked, Inside};
+ghost use Rattle.walk.specs.Walked.{Walked, Inside, wayOf, Stops};
 
 // What one visited slot says of a key.
 pub fn judge(c: usize, key: u32, s: Slot) -> Step
@@ -33,40 +33,97 @@ pub fn judge(c: usize, key: u32, s: Slot) -> Step
     }
 }
 
+// The side on which a key would hang under a slot.
+pub fn way(key: u32, s: Slot) -> Side
+    ensures { λ r. ⌜ r ≡ wayOf key s ⌝ }
+{
+    if key < s.key { Side::Left } else { Side::Right }
+}
+
+// Where a walk down stops: nowhere, for there is no root; at the `seen`-th slot, which holds the key or has nothing on
+// its side; or at damage above that.
+pub enum Stop {
+    Nowhere,
+    At {
+        slot: usize,
+        link: Link,
+        seen: usize,
+    },
+    Broken,
+}
+
+// Walks down from the root. Each slot is first asked where it leads, and tested only then: the processor needs the
+// answer for the next slot, and does the tests beside it.
+pub fn descend(t: &[u32], c: usize, key: u32) -> Stop
+    requires { ⌜ Ready (now t) c ⌝ }
+    ensures { λ r. ⌜ Stops (now (t .entry)) c key r ⌝ }
+{
+    let mut at = words::root(t);
+    if at == 0 {
+        return Stop::Nowhere;
+    }
+    let mut link = Link {
+        holder: Link::ROOT,
+        side: Side::Left,
+    };
+    let mut seen: usize = 1;
+    loop {
+        let s = words::slot_at(t, at);
+        let side = way(key, s);
+        let next = words::son(s, side);
+        if (key == s.key) | (next == 0) {
+            break Stop::At {
+                slot: at,
+                link,
+                seen,
+            };
+        }
+        if seen == c {
+            break Stop::Broken;
+        }
+        if !gate::links_ok(c, s) {
+            break Stop::Broken;
+        }
+        if !gate::record_ok(s) {
+            break Stop::Broken;
+        }
+        link = Link { holder: at, side };
+        at = next;
+        seen += 1;
+    }
+}
+
+// The outcome of a walk that stopped there: the last slot is tested and compared.
+pub fn outcome(t: &[u32], c: usize, key: u32, stop: Stop) -> Walk
+    requires { ⌜ Ready (now t) c × Stops (now t) c key stop ⌝ }
+    ensures { λ r. ⌜ Walked (now (t .entry)) c key r ⌝ }
+{
+    match stop {
+        Stop::Broken => Walk::Damage,
+        Stop::Nowhere => Walk::Miss {
+            link: Link {
+                holder: Link::ROOT,
+                side: Side::Left,
+            },
+            seen: 0,
+        },
+        Stop::At { slot, link, seen } => match judge(c, key, words::slot_at(t, slot)) {
+            Step::Broken => Walk::Damage,
+            Step::Here => Walk::Hit { slot, link, seen },
+            Step::Down(side, _) => Walk::Miss {
+                link: Link { holder: slot, side },
+                seen,
+            },
+        },
+    }
+}
+
 // Walks from the root to a key, or to the empty link where it would hang.
 pub fn search(t: &[u32], c: usize, key: u32) -> Walk
     requires { ⌜ Ready (now t) c ⌝ }
     ensures { λ r. ⌜ Walked (now (t .entry)) c key r ⌝ }
 {
-    let mut at = words::root(t);
-    let mut link = Link {
-        holder: Link::ROOT,
-        side: Side::Left,
-    };
-    let mut seen: usize = 0;
-    loop {
-        if at == 0 {
-            break Walk::Miss { link, seen };
-        }
-        if seen == c {
-            break Walk::Damage;
-        }
-        match judge(c, key, words::slot_at(t, at)) {
-            Step::Broken => break Walk::Damage,
-            Step::Here => {
-                break Walk::Hit {
-                    slot: at,
-                    link,
-                    seen: seen + 1,
-                };
-            }
-            Step::Down(side, next) => {
-                link = Link { holder: at, side };
-                at = next;
-                seen += 1;
-            }
-        }
-    }
+    outcome(t, c, key, descend(t, c, key))
 }
 
 // What find answers at a walk's end.
@@ -89,13 +146,13 @@ pub fn found(t: &[u32], c: usize, w: Walk) -> Answer
     }
 }
 
-// find: the record of a key.
+// find: the record of a key. It takes the two parts of `search` itself, and so has them compiled into it.
 pub fn find(t: &[u32], key: u32) -> Answer
     ensures { λ r. ⌜ r ≡ findAnswer (now (t .entry)) key ⌝ }
 {
     match gate::enter(t, key != 0) {
         Gate::Shut(why) => gate::refuse(why),
-        Gate::Open(c) => found(t, c, search(t, c, key)),
+        Gate::Open(c) => found(t, c, outcome(t, c, key, descend(t, c, key))),
     }
 }
 

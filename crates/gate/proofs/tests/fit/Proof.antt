@@ -1,39 +1,21 @@
 -- `gate::tests::fit` meets its contract. Assumes nothing.
-use borrow.Author.Needs.{needs}
+use mathlib.Core.Path.{refl, sym}
 use Rattle.gate.proofs.Fitting.{fit-together}
+use borrow.Author.Needs.{needs}
 use Rattle.gate.proofs.tests.fit.Statement.{statement}
 use Rattle.gate.proofs.tests.fit.Tie as tie
 
-ends-ok-requires : tie.Need-ends-ok-requires
-ends-ok-requires c κs = search needs
+record-ok-requires : tie.Need-record-ok-requires
+record-ok-requires c κs = search needs
 
-pieces-ok-requires : tie.Need-pieces-ok-requires
-pieces-ok-requires c κs = search needs
-
-cast-result : tie.Need-cast-result
-cast-result c = search needs
-
-cast-result-2 : tie.Need-cast-result-2
-cast-result-2 c = search needs
-
-registers-ok-requires : tie.Need-registers-ok-requires
-registers-ok-requires c κs = search needs
+links-ok-requires : tie.Need-links-ok-requires
+links-ok-requires c κs = search needs
 
 returns : tie.Need-returns
-returns c =
-    let ends = c .before .before .before .before .before .ends-ok .ensures in
-    let pieces = c .before .before .before .pieces-ok .ensures in
-    let registers = c .registers-ok .ensures in
-    let a = c .before .before .before .before .before .before .args in
-    rw (ends, pieces, registers) (fit-together (a .c) (a .s))
+returns c = let a = c .before .before .before .args in rw (sym (fit-together (a .c) (a .s)), sym (c .before .before .record-ok .ensures), c .before .if1 .taken, sym (c .links-ok .ensures)) refl
+
+returns-2 : tie.Need-returns-2
+returns-2 c = let a = c .before .before .args in rw (sym (fit-together (a .c) (a .s)), sym (c .before .record-ok .ensures), c .if1 .left) refl
 
 pub fit-spec : {M : Type 1} → statement M
-fit-spec =
-    tie.close
-    (tie.spec
-    ends-ok-requires
-    pieces-ok-requires
-    cast-result
-    cast-result-2
-    registers-ok-requires
-    returns)
+fit-spec = tie.close (tie.spec record-ok-requires links-ok-requires returns returns-2)
