@@ -1,3 +1,3 @@
--- Laws of the walks of both sides.
+-- Laws of the walks of the sums.
 pub mod Down
 pub mod Walks

@@ -1,16 +1,14 @@
 -- A tree that hangs at a link, and what a walk of it says. Assumes nothing: these are statements.
 use Prim.Native.Nat.{ℕ, _+_, _*_, _≤_}
 use mathlib.Core.Path.{_≡_}
-use mathlib.Core.Bool.{true, cond}
+use mathlib.Core.Bool.{true}
 use mathlib.Core.List.{List}
-use lib.Dec.{leb}
 use Rattle.scope.specs.Table.{word, changeWord, slotAt}
-use Rattle.scope.specs.Tree.{Tree, size, trueHeight}
+use Rattle.scope.specs.Tree.{Tree, size, trueHeight, Ordered}
 use Rattle.scope.specs.Sound.{Spells, treeIn}
 use Rattle.scope.specs.Answers.{accepted, answering}
 use Rattle.scope.specs.Sums.{soundGate, totalOf}
 use Rattle.scope.specs.declared.answer.Answer.{Answer}
-use Rattle.scope.specs.declared.slot.Slot.{Slot}
 use Rattle.words.specs.Ready.{Sized}
 use Rattle.sums.specs.declared.Fork.{Fork}
 
@@ -37,13 +35,10 @@ unfoldable pub heightAnswer : List ℕ → Answer
 heightAnswer t =
     answering (soundGate t true) (λ c. accepted (word t changeWord) (trueHeight (treeIn t c)) 0 0)
 
--- the pieces of a record whose key is at most K, else 0
-unfoldable pub counted : ℕ → Slot → ℕ
-counted K s = cond (leb (s .key) K) (s .pieces) 0
-
--- a tree hangs at link x, and its pieces can be added to a sum
+-- a tree with its keys in order hangs at link x, and its pieces can be added to a sum
 pub record Adding (t : List ℕ) (more x sum : ℕ) : Type 0 where
   pub hangs : Hangs t more x
+  pub order : Ordered (hangs .tree)
   pub room : sum + 1000000 * size (hangs .tree) ≤ 10000000000000
 
 -- a sum and the pieces of all records with a key of at most K

@@ -1,4 +1,6 @@
-// Sums over a sound table: the true height and the total, each by a walk of both sides of every slot.
+// Sums over a sound table: the true height and the total, each by a walk down from the root.
+// The height's walk goes to both sides of every slot. The total's leaves out a right side where no key can count: where
+// a slot's own key is too large, all keys to its right are too.
 // A walk is two functions, at a slot and at a link, which may be empty. It starts at the root's slot: entered there,
 // the test of a link is compiled into the slot above it, and an empty link costs no call.
 use scope::Answer;
@@ -11,7 +13,7 @@ ghost use Rattle.scope.specs.Tree.{over, trueHeight};
 ghost use Rattle.scope.specs.Sound.{treeIn};
 ghost use Rattle.scope.specs.Sums.{totalOf, totalAnswer};
 ghost use Rattle.sound.specs.Whole.{Whole};
-ghost use Rattle.sums.specs.Hangs.{Hangs, Says, forkAt, heightAnswer, counted, Adding, totalOn};
+ghost use Rattle.sums.specs.Hangs.{Hangs, Says, forkAt, heightAnswer, Adding, totalOn};
 
 // A slot with its two sons.
 pub struct Fork {
@@ -78,17 +80,6 @@ pub fn height(t: &[u32]) -> Answer
     }
 }
 
-// The pieces of a record, where its key counts.
-pub fn counted(key: u32, s: Slot) -> u64
-    ensures { λ r. ⌜ r ≡ counted key s ⌝ }
-{
-    if s.key <= key {
-        words::long(s.pieces)
-    } else {
-        0
-    }
-}
-
 // Adds to a sum the pieces of all records with a key of at most `key`, in slot x and what hangs below it.
 pub fn total_at(t: &[u32], more: usize, x: usize, key: u32, sum: u64) -> u64
     requires { ⌜ (1 ≤ x) × Adding (now t) more x sum ⌝ }
@@ -97,9 +88,12 @@ pub fn total_at(t: &[u32], more: usize, x: usize, key: u32, sum: u64) -> u64
     let f = fork_at(t, x);
     let less = more - 1;
     let slot = f.slot;
-    let own = counted(key, slot);
     let a = total_under(t, less, f.left, key, sum);
-    total_under(t, less, f.right, key, a + own)
+    if slot.key <= key {
+        total_under(t, less, f.right, key, a + words::long(slot.pieces))
+    } else {
+        a
+    }
 }
 
 // The same at a link, which may be empty.

@@ -5,15 +5,15 @@ use borrow.Author.Needs.{needs}
 use borrow.Fn.Kinds.{In}
 use borrow.Fn.PlainCycle.{Measures, is, falls, and}
 use Rattle.sums.proofs.Down.{Forked, in-reach, forked}
-use Rattle.sums.proofs.Walks.{nothing-added, left-room, right-room, total-here}
+use Rattle.sums.proofs.Walks.{nothing-added, left-room, right-room, total-left, total-here}
 use Rattle.sums.proofs.total_at.Reads as at
 use Rattle.sums.proofs.total_at.Kinds as at-kinds
 use Rattle.sums.proofs.+total_at+total_under.Lts-total_at as at-lts
 use Rattle.sums.proofs.total_under.Reads as under
 use Rattle.sums.proofs.total_under.Kinds as under-kinds
 use Rattle.sums.proofs.+total_at+total_under.Lts-total_under as under-lts
-use Rattle.sums.proofs.counted.Reads as counted-reads
 use Rattle.sums.proofs.fork_at.Reads as fork-at-reads
+use Rattle.words.proofs.long.Reads as long-reads
 use Rattle.sums.proofs.+total_at+total_under.{statement}
 use Rattle.sums.proofs.+total_at+total_under.Tie.{close}
 
@@ -40,10 +40,10 @@ under-below t = and 1 under-kinds.ps (falls 1 under-kinds.ps _<_ μ-under t) und
 sides : (t : ℕ) (c : at-lts.After-fork-at (
   fork-at-reads.Asked,
   fork-at-reads.Learnt,
-  counted-reads.Asked,
-  counted-reads.Learnt,
   under-below t,
   under.Post,
+  long-reads.Asked,
+  long-reads.Learnt,
 ) (at-now t) at.Post)
     → let start = c .before .before .args in Forked (start .t .now) (start .more) (start .x) (c .fork-at .result)
 sides t c =
@@ -54,10 +54,10 @@ pub +total-at+total-under-spec : {M : Type 1} → statement M
 +total-at+total-under-spec = close μ-at μ-under (λ t. at-lts.spec (
   fork-at-reads.Asked,
   fork-at-reads.Learnt,
-  counted-reads.Asked,
-  counted-reads.Learnt,
   under-below t,
   under.Post,
+  long-reads.Asked,
+  long-reads.Learnt,
 )
     (at-now t)
     at.Post
@@ -65,31 +65,39 @@ pub +total-at+total-under-spec : {M : Type 1} → statement M
     (λ c κs. in-reach (c .before .pre .1 .1 .hangs) (omega (arith, c .before .pre .1 .0)))
     -- sub-less
     (λ c. sides t c .some)
-    -- counted-requires
-    (λ c κs. search needs)
     -- total-under-requires
     (λ c κs.
-    let v = c .before .before in
+    let v = c .before in
     let d = sides t v in
     (omega (arith, v .before .before .pre .0, d .some), left-room (v .before .before .pre .1 .1) d))
+    -- long-requires
+    (λ c κs. search needs)
     -- add-total-under
     (λ c.
-    let v = c .before .before .before in
-    let own = c .before .counted .ensures in
-    omega (arith, right-room (v .before .before .pre .1 .1) (sides t v) _ (c .total-under .ensures) own .room))
+    let w = c .before .before .before in
+    let v = w .before .before in
+    omega (
+      arith,
+      right-room (v .before .before .pre .1 .1) (sides t v) _ (w .total-under .ensures) (c .long .ensures) .room,
+    ))
     -- total-under-requires-2
     (λ c κs.
-    let v = c .before .before .before in
+    let w = c .before .before .before in
+    let v = w .before .before in
     let d = sides t v in
-    let own = c .before .counted .ensures in
     let start = v .before .before in
-    (omega (arith, start .pre .0, d .some), right-room (start .pre .1 .1) d _ (c .total-under .ensures) own))
+    (omega (arith, start .pre .0, d .some), right-room (start .pre .1 .1) d _ (w .total-under .ensures) (c .long .ensures)))
     -- returns
     (λ c.
-    let v = c .before .before .before .before in
-    let own = c .before .before .counted .ensures in
-    let a = c .before .total-under .ensures in
-    total-here (v .before .before .pre .1 .1) (sides t v) _ a own (c .total-under2 .ensures)))
+    let w = c .before .before .before .before in
+    let v = w .before .before in
+    total-here (v .before .before .pre .1 .1) (sides t v) _ (w .total-under .ensures) (c .before .long .ensures)
+    (omega (arith, c .before .before .if1 .taken)) (c .total-under2 .ensures))
+    -- returns-2
+    (λ c.
+    let w = c .before .before in
+    let v = w .before .before in
+    total-left (v .before .before .pre .1 .1) (sides t v) _ (w .total-under .ensures) (omega (arith, c .if1 .left))))
     λ t. under-lts.spec
     (at-below t, at.Post)
     (under-now t)
