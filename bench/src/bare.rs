@@ -1,4 +1,5 @@
-//! The limit for find: a walk on the same words that tests nothing, in the three forms that a compiler can give it.
+//! The limit for find: a walk on the same words that tests nothing, as anybody would write it, and in three forms that
+//! tell the compiler how to choose the side.
 
 use crate::words::*;
 use std::hint::{black_box, select_unpredictable};
@@ -42,8 +43,15 @@ macro_rules! bare {
 // The son as anybody would write it: rustc reads it at a place that it computes from the comparison (setcc).
 bare!(bare_plain, |t, k, left| if left { word(t, k, LEFT) } else { word(t, k, RIGHT) });
 
-// Both sons read before the comparison is known, and one taken by a conditional move (cmov).
+// The place of one of the two links taken by a conditional move (cmov), and the link read there.
 bare!(bare_move, |t, k, left| select_unpredictable(left, word(t, k, LEFT), word(t, k, RIGHT)));
+
+// Both links read beside the key, and one taken by a conditional move: the compiler must not leave out a volatile read,
+// and so does not make of it the form above.
+bare!(bare_both, |t: *const u32, k: usize, left| {
+    let slot = t.add(8 * k - 4);
+    select_unpredictable(left, slot.add(LEFT).read_volatile(), slot.add(RIGHT).read_volatile())
+});
 
 // A jump on the comparison: an empty black box in one arm keeps the compiler from making a move of it.
 bare!(bare_jump, |t, k, left| {

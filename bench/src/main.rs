@@ -22,9 +22,10 @@ mod trees;
 mod whole;
 mod words;
 
-use report::{count, filled, table, time, Row};
+use report::{count, filled, ratio, table, time, Row};
 use stand::Stood;
 use std::path::PathBuf;
+use stores::BARE;
 use targets::Targets;
 use tidying::Run;
 
@@ -60,6 +61,7 @@ fn main() {
         ("forms", machine::told("FORMS")),
         ("absent", machine::absent()),
         ("targets", targets.table()),
+        ("limit", limit(&finds[..2])),
         ("finds", table(&finds)),
         ("records", table(&records)),
         ("whole", table(&whole)),
@@ -72,6 +74,16 @@ fn main() {
         ("budget", measures::BUDGET.to_string()),
     ];
     print!("{}", filled(PAGE, &texts));
+}
+
+/// What find takes of the fastest bare walk, whatever its form.
+fn limit(finds: &[Row]) -> String {
+    let one = |row: &Row| {
+        let name = row.fastest(&BARE)?;
+        Some(format!("{} of the {name} for {}", ratio(row.over(name)?), row.what))
+    };
+    let all: Vec<String> = finds.iter().filter_map(one).collect();
+    format!("No target, but the limit: beside the fastest of the four bare walks, find takes {}.", all.join(" and "))
 }
 
 /// The runs of tidy as rows, with their firings.

@@ -22,7 +22,7 @@ pub struct Calls {
 
 pub const OURS: &str = "ours";
 pub const PLAIN: &str = "plain Rust";
-pub const BARE: [&str; 3] = ["bare walk", "bare walk (cmov)", "bare walk (jump)"];
+pub const BARE: [&str; 4] = ["bare walk", "bare walk (cmov)", "bare walk (both links)", "bare walk (jump)"];
 pub const TREES: [&str; 4] = ["BTreeMap", "std::map", "avl_set", "GTree"];
 
 type WordsFind = unsafe extern "C" fn(*const u32, usize, u32, *mut u64);
@@ -73,7 +73,7 @@ pub fn promised() -> Vec<Calls> {
 
 /// The walks that test nothing.
 pub fn bare() -> Vec<Calls> {
-    let walks: [WordsFind; 3] = [bare::bare_plain, bare::bare_move, bare::bare_jump];
+    let walks: [WordsFind; 4] = [bare::bare_plain, bare::bare_move, bare::bare_both, bare::bare_jump];
     BARE.into_iter().zip(walks).map(|(name, find)| on_words(name, find, None)).collect()
 }
 

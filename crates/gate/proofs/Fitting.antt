@@ -10,7 +10,7 @@ use borrow.Author.Tests.{leb-true, le-leb, eqb-true, eq-eqb, ne-eqb}
 use Rattle.scope.specs.Numbers.{mostHeight}
 use Rattle.scope.specs.Fit.{stateOk, piecesOk, linkOk, fitSlot}
 use Rattle.scope.specs.declared.slot.Slot.{Slot}
-use Rattle.scope.proofs.Bools.{and-l, and-r}
+use Rattle.scope.proofs.Bools.{and-l, and-r, both}
 use Rattle.gate.specs.Parts.{burdenOf, besideOk, registersOk, endsOk, recordOk, linksOk}
 
 -- two tests that pass alike
@@ -18,9 +18,6 @@ same : (a b : Bool) → (a ≡ true → b ≡ true) → (b ≡ true → a ≡ tr
 same true b f g = sym (f refl)
 same false true f g = g refl
 same false false f g = refl
-
-both : {a b : Bool} → a ≡ true → b ≡ true → (a && b) ≡ true
-both p q = rw (p, q) refl
 
 either {ℓ} : {X : Type ℓ} (a b : Bool) → (a || b) ≡ true → (a ≡ true → X) → (b ≡ true → X) → X
 either true b h f g = f refl

@@ -8,7 +8,7 @@ use native.Mathlib.Nat.{zero-add}
 use lib.ListN.{length, drop}
 use lib.Dec.{ltb, leb, eqb}
 use borrow.Author.Tests.{leb-true, ltb-true, lt-ltb, eqb-false}
-use Rattle.scope.proofs.Bools.{and-l, and-r}
+use Rattle.scope.proofs.Bools.{and-l, and-r, not-true}
 use Rattle.fields.specs.Number.{largest, isDigit, digitsOf, valueFrom, leadingZero, numberOf, numberAt}
 use Rattle.fields.specs.Decimal.{decimal}
 use Rattle.fields.specs.declared.number.NumberRead.the-variants.{Number, NoNumber}
@@ -17,10 +17,6 @@ use Rattle.fields.proofs.Decimal.{decimal-small, decimal-step}
 
 both : (a b : Bool) → (a && b) ≡ true → (a ≡ true) × (b ≡ true)
 both a b e = (and-l a b e, and-r a b e)
-
-not-true : (b : Bool) → not b ≡ true → b ≡ false
-not-true true e = sym e
-not-true false e = refl
 
 -- one digit more
 decimal-extend : (v c : ℕ) → 0 < v → 48 ≤ c → c ≤ 57 → v * 10 + (c - 48) < 10 ^ 20 → decimal v ++ (c ∷ []) ≡ decimal (v * 10 + (c - 48))

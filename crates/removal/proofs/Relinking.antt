@@ -1,15 +1,11 @@
 -- What the test before a register is cleared tells. Assumes nothing.
 use Prim.Native.Nat.{ℕ, _≤_}
-use mathlib.Core.Path.{_≡_, refl}
-use mathlib.Core.Bool.{Bool, true, false, not, _||_}
+use mathlib.Core.Path.{_≡_}
+use mathlib.Core.Bool.{false, not, _||_}
 use native.Mathlib.Omega.{arith}
 use borrow.Author.Tests.{eqb-false}
 use lib.Dec.{eqb}
-use Rattle.scope.proofs.Bools.{neither}
-
-or-r : (a b : Bool) → (a || b) ≡ false → b ≡ false
-or-r true b e = neither {b = true} refl e
-or-r false b e = e
+use Rattle.scope.proofs.Bools.{or-r}
 
 -- a slot holds the link
 pub held-by : (son holder : ℕ) → (not (eqb son 0) || eqb holder 0) ≡ false → 1 ≤ holder

@@ -4,7 +4,7 @@ use mathlib.Core.Path.{_≡_, refl}
 use mathlib.Core.Bool.{Bool, true, false, not, _&&_, _||_}
 use mathlib.Core.List.{List}
 use lib.Dec.{eqb}
-use Rattle.scope.proofs.Bools.{by-bool, neither}
+use Rattle.scope.proofs.Bools.{and-off, by-bool, or-l, or-r}
 use Rattle.scope.specs.Numbers.{rootLink, ruleOf}
 use Rattle.scope.specs.Table.{slotAt, son}
 use Rattle.scope.specs.Rules.{seen, reliable, heavy, guard, guardAt}
@@ -21,15 +21,6 @@ use Rattle.scope.specs.declared.rule.RuleIs.the-variants as rule-is
 use Rattle.sight.specs.Sight.{names}
 use Rattle.sight.specs.Stirring.{sideStirs, stirsAt}
 
--- both parts of a disjunction that fails
-or-l : (a b : Bool) → (a || b) ≡ false → a ≡ false
-or-l true b e = e
-or-l false b e = refl
-
-or-r : (a b : Bool) → (a || b) ≡ false → b ≡ false
-or-r true b e = neither refl e
-or-r false b e = e
-
 -- a slot that does not lean, above a register that is up to date
 no-guard : (k : Kind) (v u w : Pair) → heavy v ≡ false → not (reliable (v .near) u) ≡ false → guard k v u w ≡ false
 no-guard Propagate v u w h r = r
@@ -37,10 +28,6 @@ no-guard Lean v u w h r = by-bool (reliable (v .near) u) (λ e. rw (h, e) refl) 
 no-guard Even v u w h r = by-bool (reliable (v .near) u) (λ e. rw (h, e) refl) (λ e. rw (h, e) refl)
 no-guard Double v u w h r =
     by-bool (reliable (v .near) u && reliable (u .far) w) (λ e. rw (h, e) refl) (λ e. rw (h, e) refl)
-
-and-off : (a b : Bool) → b ≡ false → (a && b) ≡ false
-and-off true b e = e
-and-off false b e = refl
 
 module _ (t : List ℕ) (c v : ℕ) where
   -- on the side of a rule

@@ -8,12 +8,12 @@ use native.Mathlib.Decide.{decLe}
 use native.Mathlib.Omega.{arith}
 use lib.Dec.{eqb}
 use borrow.Author.Tests.{eq-eqb, eqb-true, eqb-false}
-use Rattle.scope.proofs.Bools.{and-l, and-r, by-bool, neither}
+use Rattle.scope.proofs.Bools.{and-l, and-r, by-bool, neither, both}
 use Rattle.scope.specs.Table.{word, rootWord, countWord, slotAt}
 use Rattle.scope.specs.Fit.{headerOk, blankSlot}
 use Rattle.scope.specs.Tree.{Tree, size, times, ordered}
 use Rattle.scope.specs.Sound.{rootTree, slotOk, slotsOk, soundTree, soundTable, Sound}
-use Rattle.sound.proofs.Order.{both, ordered-says, ordered-test}
+use Rattle.sound.proofs.Order.{ordered-says, ordered-test}
 use Rattle.sound.proofs.Spell.{tree-spells, root-tree}
 
 -- a slot is reached at most once, and blank where it is not reached
@@ -37,7 +37,7 @@ module _ (t : List ℕ) (T : Tree) where
       by-bool (eqb (times k T) 1)
       (λ p. simp p)
       (λ p. let z : times k T ≡ 0 = omega (arith, s .once, eqb-false (times k T) 1 p) in
-      simp p (both _ _ (eq-eqb _ _ z) (s .rest z)))
+      simp p (both (eq-eqb _ _ z) (s .rest z)))
 
   slots-say : (c : ℕ) → slotsOk t T c ≡ true → (k : ℕ) → 1 ≤ k → k ≤ c → slotOk t T k ≡ true
   unfolding slotsOk
@@ -51,16 +51,16 @@ module _ (t : List ℕ) (T : Tree) where
   slots-test : (c : ℕ) → ((k : ℕ) → 1 ≤ k → k ≤ c → slotOk t T k ≡ true) → slotsOk t T c ≡ true
   unfolding slotsOk
   slots-test zero h = refl
-  slots-test (suc c) h = both _ _ (h (suc c) (omega arith) (omega arith)) (slots-test c (λ k p q. h k p (omega arith)))
+  slots-test (suc c) h = both (h (suc c) (omega arith) (omega arith)) (slots-test c (λ k p q. h k p (omega arith)))
 
 module _ (t : List ℕ) (c : ℕ) where
   -- what holds is tested true
   pub sound-test : Sound t c → soundTable t c ≡ true
   unfolding soundTable soundTree
   sound-test s =
-      both (headerOk c t) _ (s .header)
+      both (s .header)
       (rw (root-tree t c s)
-      (both _ _ (both _ _ (eq-eqb _ _ (s .count)) (ordered-test _ (s .order)))
+      (both (both (eq-eqb _ _ (s .count)) (ordered-test _ (s .order)))
       (slots-test t (s .tree) c (λ k p q. slot-test t (s .tree) k (record { once = s .once k p q; rest = s .rest k p q })))))
 
   from-tree : headerOk c t ≡ true → (o : Option Tree) → rootTree t c ≡ o → soundTree t c o ≡ true → Sound t c

@@ -1,18 +1,13 @@
 -- Keys in order: as a test, as a statement, and by bounds. Assumes nothing.
 use Prim.Native.Nat.{ℕ, _≤_}
 use mathlib.Core.Path.{_≡_, refl}
-use mathlib.Core.Bool.{Bool, true, false, _&&_}
+use mathlib.Core.Bool.{true, _&&_}
 use native.Mathlib.Omega.{arith}
 use lib.Dec.{ltb}
 use borrow.Author.Tests.{ltb-true, lt-ltb}
-use Rattle.scope.proofs.Bools.{and-l, and-r}
+use Rattle.scope.proofs.Bools.{and-l, and-r, both}
 use Rattle.scope.specs.Tree.{Tree, leaf, node, below, above, ordered, Below, Above, Ordered}
 use Rattle.sound.specs.Scan.{Between}
-
--- two tests that pass
-pub both : (a b : Bool) → a ≡ true → b ≡ true → (a && b) ≡ true
-both true b e f = f
-both false b e f = e
 
 -- the tests pass exactly where the statements hold
 pub below-says : (b : ℕ) (T : Tree) → below b T ≡ true → Below b T
@@ -25,7 +20,7 @@ below-says b (node d h g l r) e =
 pub below-test : (b : ℕ) (T : Tree) → Below b T → below b T ≡ true
 unfolding below Below
 below-test b leaf p = refl
-below-test b (node d h g l r) p = both _ _ (lt-ltb _ _ (p .0)) (both _ _ (below-test b l (p .1)) (below-test b r (p .2)))
+below-test b (node d h g l r) p = both (lt-ltb _ _ (p .0)) (both (below-test b l (p .1)) (below-test b r (p .2)))
 
 pub above-says : (b : ℕ) (T : Tree) → above b T ≡ true → Above b T
 unfolding above Above
@@ -37,7 +32,7 @@ above-says b (node d h g l r) e =
 pub above-test : (b : ℕ) (T : Tree) → Above b T → above b T ≡ true
 unfolding above Above
 above-test b leaf p = refl
-above-test b (node d h g l r) p = both _ _ (lt-ltb _ _ (p .0)) (both _ _ (above-test b l (p .1)) (above-test b r (p .2)))
+above-test b (node d h g l r) p = both (lt-ltb _ _ (p .0)) (both (above-test b l (p .1)) (above-test b r (p .2)))
 
 pub ordered-says : (T : Tree) → ordered T ≡ true → Ordered T
 unfolding ordered Ordered
@@ -55,7 +50,7 @@ pub ordered-test : (T : Tree) → Ordered T → ordered T ≡ true
 unfolding ordered Ordered
 ordered-test leaf p = refl
 ordered-test (node d h g l r) p =
-    both _ _ (both _ _ (below-test _ l (p .0)) (above-test _ r (p .1))) (both _ _ (ordered-test l (p .2)) (ordered-test r (p .3)))
+    both (both (below-test _ l (p .0)) (above-test _ r (p .1))) (both (ordered-test l (p .2)) (ordered-test r (p .3)))
 
 -- a wider bound holds too
 pub below-more : {b b' : ℕ} (T : Tree) → b ≤ b' → Below b T → Below b' T

@@ -6,7 +6,7 @@ use mathlib.Core.List.{List}
 use native.Mathlib.Omega.{arith}
 use lib.Dec.{eqb, ltb}
 use borrow.Author.Tests.{eq-eqb, ne-eqb, ltb-true, lt-ltb}
-use Rattle.scope.proofs.Bools.{and-l, and-r, neither}
+use Rattle.scope.proofs.Bools.{and-l, and-r, neither, both}
 use Rattle.scope.specs.Table.{slotAt}
 use Rattle.scope.specs.Fit.{fitSlot}
 use Rattle.scope.specs.Tree.{Batch, Tree, leaf, node, size, same, times}
@@ -18,7 +18,6 @@ use Rattle.words.proofs.Laws.{fit-left, fit-right}
 use Rattle.marks.specs.Marks.{bitAt, Marked}
 use Rattle.marks.proofs.Laws.{bit-small, unmarked, adds}
 use Rattle.sound.specs.Scan.{Looking, inPlace, Welcome, Inside, Between, Fine, Good, Scanned, scanOf}
-use Rattle.sound.proofs.Order.{both}
 use Rattle.sound.proofs.Spell.{topped, unique}
 
 pub same-self : (x : ℕ) → same x x ≡ 1
@@ -42,7 +41,7 @@ placed c s low high e =
 
 in-place : (c : ℕ) (s : Slot) (low high : ℕ) → Placed c s low high → inPlace c s low high ≡ true
 unfolding inPlace
-in-place c s low high p = both _ _ (both _ _ (p .fit) (lt-ltb _ _ (p .over))) (lt-ltb _ _ (p .under))
+in-place c s low high p = both (both (p .fit) (lt-ltb _ _ (p .over))) (lt-ltb _ _ (p .under))
 
 -- what the tests of a slot tell, with their results a and b: it was reached before, is out of place, or is entered
 module _ {t m : List ℕ} {c x low high : ℕ} {a : Bool} (ea : a ≡ eqb (bitAt m x) 1) where

@@ -6,7 +6,7 @@ use mathlib.Core.List.{List}
 use native.Mathlib.Omega.{arith}
 use borrow.Author.Tests.{eq-eqb, ne-eqb, eqb-true}
 use lib.Dec.{eqb, ltb}
-use Rattle.scope.proofs.Bools.{by-bool, neither}
+use Rattle.scope.proofs.Bools.{and-off, by-bool, neither, or-on, not-true, not-false}
 use Rattle.scope.specs.Numbers.{rootLink}
 use Rattle.scope.specs.Table.{word, rootWord, slotAt, son}
 use Rattle.scope.specs.Fit.{fitSlot}
@@ -22,23 +22,6 @@ use Rattle.words.proofs.Laws.{fit-left, fit-right}
 use Rattle.gate.specs.Parts.{recordOk, linksOk}
 use Rattle.gate.proofs.Fitting.{fit-together}
 use Rattle.walk.specs.Walked.{Walked, Visiting, Last, wayOf}
-
--- what a refused test tells, and one that was not refused
-failed : (b : Bool) → not b ≡ true → b ≡ false
-failed true e = sym e
-failed false e = refl
-
-passed : (b : Bool) → not b ≡ false → b ≡ true
-passed true e = refl
-passed false e = sym e
-
-or-right : (a b : Bool) → b ≡ true → (a || b) ≡ true
-or-right true b e = refl
-or-right false b e = e
-
-and-false : (a : Bool) → (a && false) ≡ false
-and-false true = refl
-and-false false = refl
 
 -- what a slot says that is not fit
 unfit : (c key : ℕ) (s : Slot) → fitSlot c s ≡ false → stepOf c key s ≡ Broken
@@ -163,7 +146,7 @@ module _ {t : List ℕ} {c key : ℕ} where
       other e = neither (rw (eq-eqb key (s .key) e) refl) h
 
       some-next : next ≡ 0 → ⊥
-      some-next e = neither (or-right (eqb key (s .key)) _ (eq-eqb next 0 e)) h
+      some-next e = neither (or-on (eqb key (s .key)) _ (eq-eqb next 0 e)) h
 
       down : fitSlot c s ≡ true → stepOf c key (slotAt t at) ≡ Down side next
       down f = rw (sym read, led, turned) (leads c key s f other)
@@ -172,13 +155,13 @@ module _ {t : List ℕ} {c key : ℕ} where
       stops-spent e = by-bool (fitSlot c s) (λ f. at-spent v (down f) some-next e) unfit-at
 
       pub stops-unlinked : {b : Bool} → b ≡ linksOk c s → not b ≡ true → walkOf t c key ≡ Damage
-      stops-unlinked {b} q e = unfit-at (whole refl q ∙ rw (failed b e) (and-false (recordOk s)))
+      stops-unlinked {b} q e = unfit-at (whole refl q ∙ and-off (recordOk s) _ (not-true b e))
 
       pub stops-unfit : {a : Bool} → a ≡ recordOk s → not a ≡ true → walkOf t c key ≡ Damage
-      stops-unfit {a} p e = unfit-at (whole p refl ∙ rw (failed a e) refl)
+      stops-unfit {a} p e = unfit-at (whole p refl ∙ rw (not-true a e) refl)
 
       pub passes : {a b : Bool} → a ≡ recordOk s → b ≡ linksOk c s → not a ≡ false → not b ≡ false → (seen ≡ c → ⊥)
           → Visiting t c key next (record { holder = at; side = side }) (seen + 1)
       passes {a} {b} p q x y room =
-          let f : fitSlot c s ≡ true = whole p q ∙ rw (passed a x, passed b y) refl in
+          let f : fitSlot c s ≡ true = whole p q ∙ rw (not-false a x, not-false b y) refl in
           at-next v (down f) some-next (rw (led, turned) (way-le c key s f)) room
