@@ -35,10 +35,13 @@ pub fn lowest(m: &[u64; 64], from: usize) -> usize
 {
     let mut k: usize = from;
     while k < SLOTS {
-        if marks::marked(m, k) {
-            return k;
+        let at = k / 64;
+        let word = &m[at];
+        let w = *word >> (k % 64);
+        if w != 0 {
+            return k + u64::trailing_zeros(w) as usize;
         }
-        k = marks::past(m, k, 0);
+        k = 64 * at + 64;
     }
     k
 }

@@ -1,9 +1,8 @@
 -- `agenda::lowest` meets its contract. Assumes nothing.
 use Prim.Native.Nat.{_-_}
-use mathlib.Core.Path.{sym, _∙_}
-use native.Mathlib.Omega.{arith}
-use borrow.Author.Tests.{eqb-true}
-use Rattle.marks.proofs.Laws.{unmarked}
+use lib.Count.{trailing-le}
+use mir.Facts.{fits-le, fits-lit}
+use borrow.Author.Needs.{needs}
 use Rattle.agenda.proofs.Seeking.{Seeking, seeking-start, seeking-hit, seeking-on, seeking-end}
 use Rattle.agenda.proofs.lowest.Statement.{statement}
 use Rattle.agenda.proofs.lowest.Tie as tie
@@ -17,20 +16,40 @@ abbrev μ-loop : tie.MeasureT-loop
 loop-holds : tie.Need-loop-holds Inv-loop μ-loop
 loop-holds c = seeking-start (c .pre)
 
-marked-requires : tie.Need-marked-requires Inv-loop μ-loop
-marked-requires c κs = c .loop-test .taken
+mul-word : tie.Need-mul-word Inv-loop μ-loop
+mul-word c = search needs
 
+index-1-word : tie.Need-index-1-word Inv-loop μ-loop
+index-1-word c = search needs
+
+shr-w : tie.Need-shr-w Inv-loop μ-loop
+shr-w c = search needs
+
+cast-result : tie.Need-cast-result Inv-loop μ-loop
+cast-result c = fits-le (trailing-le 64 _) (fits-lit tt)
+
+-- that the word has 64 bits is known because the code reads it by a reference of its own
 returns : tie.Need-returns Inv-loop μ-loop
-returns c = seeking-hit (c .before .before .before .loop .inv) (eqb-true _ 1 (sym (c .before .marked .ensures) ∙ c .if1 .taken))
+returns c =
+    seeking-hit (c .before .before .before .before .loop .inv) (c .before .before .before .loop-test .taken)
+    (c .before .row-known .given .fits) (c .if1 .taken)
 
-past-requires : tie.Need-past-requires Inv-loop μ-loop
-past-requires c κs = c .before .before .loop-test .taken
+-- what is returned is a slot's number, or 4,096
+add-result : tie.Need-add-result Inv-loop μ-loop
+add-result c = fits-le (returns c .most) (fits-lit tt)
+
+mul-k : tie.Need-mul-k Inv-loop μ-loop
+mul-k c = search needs
+
+add-k : tie.Need-add-k Inv-loop μ-loop
+add-k c = search needs
 
 loop-less : tie.Need-loop-less Inv-loop μ-loop
-loop-less c = omega (arith, c .past .ensures .further, c .before .before .before .loop-test .taken)
+loop-less c = search needs
 
 loop-again : tie.Need-loop-again Inv-loop μ-loop
-loop-again c = seeking-on (c .before .before .before .before .loop .inv) (unmarked _ _ (sym (c .before .before .marked .ensures) ∙ c .before .if1 .left)) (c .past .ensures)
+loop-again c =
+    seeking-on (c .before .before .before .before .loop .inv) (c .before .before .before .loop-test .taken) (c .if1 .left)
 
 returns-2 : tie.Need-returns-2 Inv-loop μ-loop
 returns-2 c = seeking-end (c .before .loop .inv) (c .loop-test .left)
@@ -42,9 +61,14 @@ lowest-spec =
     Inv-loop
     μ-loop
     loop-holds
-    marked-requires
+    mul-word
+    index-1-word
+    shr-w
+    cast-result
+    add-result
     returns
-    past-requires
+    mul-k
+    add-k
     loop-less
     loop-again
     returns-2)
