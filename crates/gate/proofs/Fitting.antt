@@ -1,17 +1,17 @@
 -- The tests that `gate` takes together say what the tests one by one say. Assumes nothing.
 use Prim.Native.Nat.{ℕ, _+_, _*_, _≤_, _<_}
 use mathlib.Core.Path.{_≡_, refl, sym, _∙_}
-use mathlib.Core.Bool.{Bool, true, false, cond, not, _&&_, _||_}
+use mathlib.Core.Bool.{Bool, true, false, not, _&&_, _||_}
 use native.Mathlib.Omega.{arith}
 use native.Mathlib.Decide.{ℕ-discrete}
 use lib.Dec.{leb, eqb}
-use lib.Bits.{bitOr, bitAnd, or-lt, or-add-and, and-le-l, and-le-r}
+use lib.Bits.{bitOr, or-lt, or-add-and, and-le-l, and-le-r}
 use borrow.Author.Tests.{leb-true, le-leb, eqb-true, eq-eqb, ne-eqb}
 use Rattle.scope.specs.Numbers.{mostHeight}
 use Rattle.scope.specs.Fit.{stateOk, piecesOk, linkOk, fitSlot}
 use Rattle.scope.specs.declared.slot.Slot.{Slot}
 use Rattle.scope.proofs.Bools.{and-l, and-r, both}
-use Rattle.gate.specs.Parts.{burdenOf, besideOk, registersOk, endsOk, recordOk, linksOk}
+use Rattle.gate.specs.Parts.{burdenOf, besideOk, registersOk, recordOk, linksOk}
 
 -- two tests that pass alike
 same : (a b : Bool) → (a ≡ true → b ≡ true) → (b ≡ true → a ≡ true) → a ≡ b

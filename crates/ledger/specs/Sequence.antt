@@ -1,5 +1,4 @@
 -- Any call on a ledger, and any list of calls. Assumes nothing: these are definitions.
-use Prim.Native.Nat.{ℕ}
 use mathlib.Core.Option.{Option, none, some}
 use mathlib.Core.List.{List, [], _∷_}
 use Rattle.scope.specs.Answers.{accepted}

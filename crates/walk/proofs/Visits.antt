@@ -24,12 +24,12 @@ use Rattle.gate.proofs.Fitting.{fit-together}
 use Rattle.walk.specs.Walked.{Walked, Visiting, Last, wayOf}
 
 -- what a slot says that is not fit
-unfit : (c key : ℕ) (s : Slot) → fitSlot c s ≡ false → stepOf c key s ≡ Broken
+pub unfit : (c key : ℕ) (s : Slot) → fitSlot c s ≡ false → stepOf c key s ≡ Broken
 unfolding stepOf
 unfit c key s f = simp f
 
 -- what a fit slot with another key says
-leads : (c key : ℕ) (s : Slot) → fitSlot c s ≡ true → (key ≡ s .key → ⊥) → stepOf c key s ≡ Down (wayOf key s) (son s (wayOf key s))
+pub leads : (c key : ℕ) (s : Slot) → fitSlot c s ≡ true → (key ≡ s .key → ⊥) → stepOf c key s ≡ Down (wayOf key s) (son s (wayOf key s))
 unfolding stepOf wayOf
 leads c key s f ne =
     by-bool (ltb key (s .key))

@@ -15,6 +15,13 @@ ghost use Rattle.scope.specs.Find.{startAnswer, startTable, foundIn, findAnswer
 ghost use Rattle.words.specs.Ready.{Sized, Ready};
 ghost use Rattle.walk.specs.Walked.{Walked, Inside, wayOf, Stops};
 
+// The side on which a key would hang under a slot.
+pub fn way(key: u32, s: Slot) -> Side
+    ensures { λ r. ⌜ r ≡ wayOf key s ⌝ }
+{
+    if key < s.key { Side::Left } else { Side::Right }
+}
+
 // What one visited slot says of a key.
 pub fn judge(c: usize, key: u32, s: Slot) -> Step
     ensures { λ r. ⌜ r ≡ stepOf c key s ⌝ }
@@ -23,21 +30,12 @@ pub fn judge(c: usize, key: u32, s: Slot) -> Step
         if key == s.key {
             return Step::Here;
         }
-        if key < s.key {
-            Step::Down(Side::Left, words::wide(s.left))
-        } else {
-            Step::Down(Side::Right, words::wide(s.right))
-        }
+        let side = way(key, s);
+        let next = words::son(s, side);
+        Step::Down(side, next)
     } else {
         Step::Broken
     }
-}
-
-// The side on which a key would hang under a slot.
-pub fn way(key: u32, s: Slot) -> Side
-    ensures { λ r. ⌜ r ≡ wayOf key s ⌝ }
-{
-    if key < s.key { Side::Left } else { Side::Right }
 }
 
 // Where a walk down stops: nowhere, for there is no root; at the `seen`-th slot, which holds the key or has nothing on
