@@ -40,6 +40,9 @@ module _ {m : List ℕ} {from : ℕ} where
     pub seeking-end : 4096 ≤ k → Lowest m from k
     seeking-end h = record { first = s .first; most = s .most; on = λ i. absurd (omega arith); off = s .off }
 
+    pub seeking-here : bitAt m k ≡ 1 → Lowest m from k
+    seeking-here e = record { first = s .first; most = s .most; on = λ h. e; off = s .off }
+
     -- z slots further in the word of slot k, none of which is on
     further : k < 4096 → (z : ℕ) → k % 64 + z ≤ 64 → ((i : ℕ) → i < z → rest m k / 2 ^ i % 2 ≡ 0)
         → Seeking m from (k + z)

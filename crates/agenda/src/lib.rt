@@ -28,13 +28,17 @@ pub fn put_on(m: &mut [u64; 64], low: usize, k: usize) -> usize
     if low < k { low } else { k }
 }
 
-// The lowest slot from a given one on that is on, or 4,096 for none.
+// The lowest slot from a given one on that is on, or 4,096 for none. The first is tried by itself: where all are on, a
+// processor then guesses right, and need not wait for the count of zeros.
 pub fn lowest(m: &[u64; 64], from: usize) -> usize
     requires { ⌜ from ≤ 4096 ⌝ }
     ensures { λ r. ⌜ Lowest (now (m .entry)) from r ⌝ }
 {
     let mut k: usize = from;
     while k < SLOTS {
+        if marks::marked(m, k) {
+            return k;
+        }
         let at = k / 64;
         let word = &m[at];
         let w = *word >> (k % 64);

@@ -1,9 +1,11 @@
 -- `agenda::lowest` meets its contract. Assumes nothing.
 use Prim.Native.Nat.{_-_}
+use mathlib.Core.Path.{sym, _∙_}
 use lib.Count.{trailing-le}
 use mir.Facts.{fits-le, fits-lit}
+use borrow.Author.Tests.{eqb-true}
 use borrow.Author.Needs.{needs}
-use Rattle.agenda.proofs.Seeking.{Seeking, seeking-start, seeking-hit, seeking-on, seeking-end}
+use Rattle.agenda.proofs.Seeking.{Seeking, seeking-start, seeking-here, seeking-hit, seeking-on, seeking-end}
 use Rattle.agenda.proofs.lowest.Statement.{statement}
 use Rattle.agenda.proofs.lowest.Tie as tie
 
@@ -15,6 +17,13 @@ abbrev μ-loop : tie.MeasureT-loop
 
 loop-holds : tie.Need-loop-holds Inv-loop μ-loop
 loop-holds c = seeking-start (c .pre)
+
+marked-requires : tie.Need-marked-requires Inv-loop μ-loop
+marked-requires c κs = c .loop-test .taken
+
+returns : tie.Need-returns Inv-loop μ-loop
+returns c =
+    seeking-here (c .before .before .before .loop .inv) (eqb-true _ 1 (sym (c .before .marked .ensures) ∙ c .if1 .taken))
 
 mul-word : tie.Need-mul-word Inv-loop μ-loop
 mul-word c = search needs
@@ -29,14 +38,14 @@ cast-result : tie.Need-cast-result Inv-loop μ-loop
 cast-result c = fits-le (trailing-le 64 _) (fits-lit tt)
 
 -- that the word has 64 bits is known because the code reads it by a reference of its own
-returns : tie.Need-returns Inv-loop μ-loop
-returns c =
-    seeking-hit (c .before .before .before .before .loop .inv) (c .before .before .before .loop-test .taken)
-    (c .before .row-known .given .fits) (c .if1 .taken)
+returns-2 : tie.Need-returns-2 Inv-loop μ-loop
+returns-2 c =
+    let w = c .before .before .before .before .before in
+    seeking-hit (w .before .loop .inv) (w .loop-test .taken) (c .before .row-known .given .fits) (c .if2 .taken)
 
 -- what is returned is a slot's number, or 4,096
 add-result : tie.Need-add-result Inv-loop μ-loop
-add-result c = fits-le (returns c .most) (fits-lit tt)
+add-result c = fits-le (returns-2 c .most) (fits-lit tt)
 
 mul-k : tie.Need-mul-k Inv-loop μ-loop
 mul-k c = search needs
@@ -49,10 +58,11 @@ loop-less c = search needs
 
 loop-again : tie.Need-loop-again Inv-loop μ-loop
 loop-again c =
-    seeking-on (c .before .before .before .before .loop .inv) (c .before .before .before .loop-test .taken) (c .if1 .left)
+    let w = c .before .before .before .before .before in
+    seeking-on (w .before .loop .inv) (w .loop-test .taken) (c .if2 .left)
 
-returns-2 : tie.Need-returns-2 Inv-loop μ-loop
-returns-2 c = seeking-end (c .before .loop .inv) (c .loop-test .left)
+returns-3 : tie.Need-returns-3 Inv-loop μ-loop
+returns-3 c = seeking-end (c .before .loop .inv) (c .loop-test .left)
 
 pub lowest-spec : {M : Type 1} → statement M
 lowest-spec =
@@ -61,14 +71,16 @@ lowest-spec =
     Inv-loop
     μ-loop
     loop-holds
+    marked-requires
+    returns
     mul-word
     index-1-word
     shr-w
     cast-result
     add-result
-    returns
+    returns-2
     mul-k
     add-k
     loop-less
     loop-again
-    returns-2)
+    returns-3)
