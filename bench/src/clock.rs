@@ -26,7 +26,7 @@ pub fn timed<T>(calls: usize, work: impl FnOnce() -> T) -> f64 {
 
 /// Rounds that each contestant takes part in whatever its share of time, and the most rounds.
 const LEAST_ROUNDS: u64 = 7;
-const MOST_ROUNDS: u64 = 400;
+const MOST_ROUNDS: u64 = 1_600;
 
 /// But once a contestant has taken so long, it has had turns enough.
 const SLOW: Duration = Duration::from_millis(1_500);

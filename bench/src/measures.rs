@@ -17,8 +17,10 @@ use std::time::Duration;
 pub const SIZES: [usize; 5] = [15, 63, 255, 1_023, 4_095];
 const FULL: usize = SIZES[4];
 
-/// The time that each contestant has in a workload of the tables, and of the plot.
+/// The time that each contestant has in a workload of the tables, and of the plot; a find is short and its tables close,
+/// so there each has four times as long to meet a quiet moment.
 const SHARE: Duration = Duration::from_millis(250);
+const FIND_SHARE: Duration = Duration::from_millis(1_000);
 const SMALL_SHARE: Duration = Duration::from_millis(60);
 
 /// The largest height that the random registers get.
@@ -47,10 +49,10 @@ pub fn all_finds() -> Vec<Row> {
         for (name, wanted) in [("hits", Wanted::Hits), ("misses", Wanted::Misses)] {
             let what = format!("{name} {when}");
             say(&format!("find, {what}"));
-            rows.push(Row::new(what, finds(words, list, wanted, Pace::Free, SHARE)));
+            rows.push(Row::new(what, finds(words, list, wanted, Pace::Free, FIND_SHARE)));
         }
     }
-    let waiting = finds(&tight, &random, Wanted::Hits, Pace::Waiting, SHARE);
+    let waiting = finds(&tight, &random, Wanted::Hits, Pace::Waiting, FIND_SHARE);
     rows.push(Row::new("hits after tidying, each waiting for the answer before", waiting));
     rows
 }
