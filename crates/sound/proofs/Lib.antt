@@ -1,4 +1,5 @@
 -- The theorems on sound tables, from the tree's order to the verdict.
+pub mod Along
 pub mod Order
 pub mod Spell
 pub mod Exact

@@ -48,6 +48,7 @@ pub fn visit(t: &[u32], m: &mut [u64; 64], c: usize, x: usize, low: u64, high: u
 pub const SPOILED: usize = 4096;
 
 // Scans slot x and what hangs below it: at most `more` slots, with keys between two bounds. Says how many are left over.
+// It calls itself for what hangs on the left, and goes on to the right by itself.
 pub fn scan(
     t: &[u32],
     m: &mut [u64; 64],
@@ -60,17 +61,26 @@ pub fn scan(
     requires { ⌜ (1 ≤ x) × Scanning (now t) (now m) c more x ⌝ }
     ensures { λ r. ⌜ Scanned (now (t .entry)) (now (m .entry)) (now (m .exit)) c more x low high (scanOf r) ⌝ }
 {
-    if more == 0 {
-        return SPOILED;
-    }
-    match visit(t, m, c, x, low, high) {
-        Visit::Refused => SPOILED,
-        Visit::Entered { left, right, key } => {
-            let n = under(t, m, c, more - 1, left, low, key);
-            if n == SPOILED {
-                SPOILED
-            } else {
-                under(t, m, c, n, right, key, high)
+    let mut at = x;
+    let mut from = low;
+    let mut few = more;
+    loop {
+        if few == 0 {
+            return SPOILED;
+        }
+        match visit(t, m, c, at, from, high) {
+            Visit::Refused => return SPOILED,
+            Visit::Entered { left, right, key } => {
+                let n = under(t, m, c, few - 1, left, from, key);
+                if n == SPOILED {
+                    return SPOILED;
+                }
+                if right == 0 {
+                    return n;
+                }
+                at = right;
+                from = key;
+                few = n;
             }
         }
     }

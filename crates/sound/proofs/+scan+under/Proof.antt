@@ -4,9 +4,8 @@ use native.Mathlib.Omega.{arith}
 use borrow.Author.Needs.{needs}
 use borrow.Fn.Kinds.{In}
 use borrow.Fn.PlainCycle.{Measures, is, falls, and}
-use Rattle.sound.specs.Scan.{scanOf}
-use Rattle.sound.proofs.Steps.{at-end, no-room, refused, left-in, right-in, left-refused, right-part}
-use Rattle.sound.proofs.Steps.{is-spoiled, was-spoiled, is-left, was-left}
+use Rattle.sound.proofs.Along.{Along, along-start, along-spent, along-refused, along-left, along-spoiled, along-less, along-end, along-right}
+use Rattle.sound.proofs.Steps.{at-end, is-left}
 use Rattle.sound.proofs.scan.Reads as scan
 use Rattle.sound.proofs.scan.Kinds as scan-kinds
 use Rattle.sound.proofs.+scan+under.Lts-scan as scan-lts
@@ -17,7 +16,6 @@ use Rattle.sound.proofs.visit.Reads as visit-reads
 use Rattle.sound.proofs.+scan+under.{statement}
 use Rattle.sound.proofs.+scan+under.Tie.{close}
 
--- the slots that may still be reached are fewer at each slot, and a link comes before its slot
 abbrev μ-scan : Measures 2 scan-kinds.ps ℕ
 μ-scan κs a = 2 * (a .1 .1 .1 .0)
 
@@ -36,6 +34,12 @@ under-at t = and 2 under-kinds.ps (is 2 under-kinds.ps μ-under t) under.Pre
 abbrev under-below : ℕ → In 2 under-kinds.ps
 under-below t = and 2 under-kinds.ps (falls 2 under-kinds.ps _<_ μ-under t) under.Pre
 
+abbrev scan-Inv-loop : scan-lts.InvT-loop
+scan-Inv-loop t m₀ c more x low high at₀ from₀ few₀ m at from few = Along t m₀ c more x low high m at from few
+
+abbrev scan-μ-loop : scan-lts.MeasureT-loop
+scan-μ-loop t m₀ c more x low high at₀ from₀ few₀ m at from few = few
+
 pub +scan+under-spec : {M : Type 1} → statement M
 +scan+under-spec = close μ-scan μ-under (λ t. scan-lts.spec (
   visit-reads.Asked,
@@ -45,64 +49,56 @@ pub +scan+under-spec : {M : Type 1} → statement M
 )
     (scan-at t)
     scan.Post
+    scan-Inv-loop
+    scan-μ-loop
+    -- loop-holds
+    (λ c. let p = c .before .pre .1 in along-start (p .0) (p .1))
     -- returns
-    (λ c.
-    let start = c .before .before in
-    is-spoiled _ _ _ _ _ _ _ _
-    (no-room _ _ _ _ _ _ _ (start .pre .1 .0) (omega (arith, start .pre .1 .1 .looking)) (c .if1 .taken)))
+    (λ c. along-spent (c .before .loop .inv) _ (c .if1 .taken))
     -- visit-requires
-    (λ c κs. let start = c .before .before .before in (start .pre .1 .0, start .pre .1 .1 .looking))
+    (λ c κs. let v = c .before .before .loop .inv in (v .there, v .scanning .looking))
     -- enum-told
     (λ c. search needs)
+    -- returns-2
+    (λ c.
+    let w = c .before .before in
+    along-refused (w .before .before .before .loop .inv) _ (rw (c .enum-told .given .1) at (w .visit .ensures)))
     -- enum-known-left
     (λ c. search needs)
     -- sub-under
     (λ c. search needs)
     -- under-requires
     (λ c κs.
-    let v = c .before .before in
-    let start = v .before .before .before .before .before .before in
-    let inside = rw (v .left .given .1) at (v .before .before .visit .ensures) in (
-      omega (arith, start .pre .0, v .before .before .before .before .if1 .left),
-      record {
-        looking = record { sized = start .pre .1 .1 .looking .sized; link = left-in inside; marks = inside .mark .room };
-        few = omega (arith, start .pre .1 .1 .few);
-      },
+    let w = c .before .before in
+    let v = w .before .before .before .before .before .loop .inv in
+    let start = w .before .before .before .before .before .before .before in (
+      omega (arith, start .pre .0, v .fewer, w .before .before .before .before .if1 .left),
+      along-left v (rw (w .left .given .1) at (w .before .before .visit .ensures)),
     ))
-    -- under-requires-2
-    (λ c κs.
-    let v = c .before .before .before .before .before in
-    let start = v .before .before .before .before .before .before in
-    let inside = rw (v .left .given .1) at (v .before .before .visit .ensures) in
-    let good = was-left _ _ _ _ _ _ _ _ (c .before .if2 .left) (c .before .before .under .ensures) in (
-      omega (arith, start .pre .0, v .before .before .before .before .if1 .left, good .used),
-      record {
-        looking = record { sized = start .pre .1 .1 .looking .sized; link = right-in inside; marks = good .marks };
-        few = omega (arith, start .pre .1 .1 .few, good .used);
-      },
-    ))
-    -- returns-2
-    (λ c.
-    let start = c .before .before .before .before .before .before in
-    let bad = rw (c .enum-told .given .1) at (c .before .before .visit .ensures) in
-    is-spoiled _ _ _ _ _ _ _ _
-    (refused _ _ _ _ _ _ _ (start .pre .1 .0) (omega (arith, start .pre .1 .1 .looking)) bad))
     -- returns-3
     (λ c.
-    let v = c .before .before .before .before in
-    let start = v .before .before .before .before .before .before in
-    let inside = rw (v .left .given .1) at (v .before .before .visit .ensures) in
-    is-spoiled _ _ _ _ _ _ _ _
-    (left-refused _ _ _ _ _ _ _ (start .pre .1 .0) (omega (arith, start .pre .1 .1 .looking)) _ _ _ _ inside
-    (was-spoiled _ _ _ _ _ _ _ _ (c .if2 .taken) (c .before .under .ensures))))
+    let w = c .before .before .before .before in
+    let v = w .before .before .before .before .before .loop .inv in
+    let o = rw (w .left .given .1) at (w .before .before .visit .ensures) in
+    along-spoiled v o _ _ (c .before .under .ensures) _ (c .if2 .taken))
     -- returns-4
     (λ c.
-    let v = c .before .before .before .before .before .before in
-    let start = v .before .before .before .before .before .before in
-    let inside = rw (v .left .given .1) at (v .before .before .visit .ensures) in
-    let good = was-left _ _ _ _ _ _ _ _ (c .before .before .if2 .left) (c .before .before .before .under .ensures) in
-    right-part _ _ _ _ _ _ _ (start .pre .1 .0) (omega (arith, start .pre .1 .1 .looking)) _ _ _ _ inside _ _ _ good
-    (omega (arith, v .before .before .before .before .if1 .left)) (scanOf (c .under2 .result)) (c .under2 .ensures)))
+    let w = c .before .before .before .before .before in
+    let v = w .before .before .before .before .before .loop .inv in
+    let o = rw (w .left .given .1) at (w .before .before .visit .ensures) in
+    along-end v o _ _ (c .before .before .under .ensures) (c .before .if2 .left) (w .before .before .before .before .if1 .left) (c .if3 .taken))
+    -- loop-less
+    (λ c.
+    let w = c .before .before .before .before .before in
+    let v = w .before .before .before .before .before .loop .inv in
+    let o = rw (w .left .given .1) at (w .before .before .visit .ensures) in
+    along-less v o _ _ (c .before .before .under .ensures) (c .before .if2 .left) (w .before .before .before .before .if1 .left))
+    -- loop-again
+    (λ c.
+    let w = c .before .before .before .before .before in
+    let v = w .before .before .before .before .before .loop .inv in
+    let o = rw (w .left .given .1) at (w .before .before .visit .ensures) in
+    along-right v o _ _ (c .before .before .under .ensures) (c .before .if2 .left) (w .before .before .before .before .if1 .left) (c .if3 .left)))
     λ t. under-lts.spec
     (scan-below t, scan.Post)
     (under-at t)
