@@ -11,27 +11,33 @@ struct Way {
     visits: usize,
 }
 
-/// Walks from the root to a key; none if the walk meets damage.
+/// Walks from the root to a key; none if the walk meets damage. Each slot is asked where it leads before it is tested, as
+/// in ours: the processor can then read the next one meanwhile.
 #[inline]
 fn walk(slots: &[Slot], root: u32, key: u32) -> Option<Way> {
     let mut way = Way { slot: root as usize, holder: 0, side: LEFT, visits: 0 };
-    while way.slot != 0 {
-        if way.visits == slots.len() {
-            return None;
-        }
+    if way.slot == 0 {
+        return Some(way);
+    }
+    loop {
         way.visits += 1;
         let s = &slots[way.slot - 1];
-        if !fit(s, slots.len()) {
+        let side = if key < s[KEY] { LEFT } else { RIGHT };
+        let next = select_unpredictable(key < s[KEY], s[LEFT], s[RIGHT]) as usize;
+        if s[KEY] == key || next == 0 {
+            if !fit(s, slots.len()) {
+                return None;
+            }
+            if s[KEY] == key {
+                return Some(way);
+            }
+            return Some(Way { slot: 0, holder: way.slot, side, visits: way.visits });
+        }
+        if way.visits == slots.len() || !fit(s, slots.len()) {
             return None;
         }
-        if s[KEY] == key {
-            return Some(way);
-        }
-        way.holder = way.slot;
-        way.side = if key < s[KEY] { LEFT } else { RIGHT };
-        way.slot = select_unpredictable(key < s[KEY], s[LEFT], s[RIGHT]) as usize;
+        (way.holder, way.side, way.slot) = (way.slot, side, next);
     }
-    Some(way)
 }
 
 pub fn find(words: &[u32], key: u32) -> Answer {
