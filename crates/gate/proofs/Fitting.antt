@@ -19,10 +19,6 @@ same true b f g = sym (f refl)
 same false true f g = g refl
 same false false f g = refl
 
-either {ℓ} : {X : Type ℓ} (a b : Bool) → (a || b) ≡ true → (a ≡ true → X) → (b ≡ true → X) → X
-either true b h f g = f refl
-either false b h f g = g h
-
 -- the first and the last word of a slot
 pub ends-together : (s l : ℕ) → (eqb (s + 4 * l) 1 || eqb (s + 4 * l) 2) ≡ (stateOk s && eqb l 0)
 unfolding stateOk
