@@ -28,7 +28,7 @@ use Rattle.scope.specs.declared.outcome.Firing.{Firing}
 use Rattle.scope.specs.declared.outcome.Firing.the-variants.{Refuse, Fire}
 use Rattle.words.specs.Ready.{Sized, Ready}
 use Rattle.words.proofs.Laws.{header-root, header-count}
-use Rattle.rules.specs.Aimed.{Aimed}
+use Rattle.fire_aim.specs.Aimed.{Aimed}
 
 -- a good header makes a table ready
 pub ready : {t : List ℕ} {c : ℕ} → Sized t c → headerOk c t ≡ true → Ready t c

@@ -1,5 +1,5 @@
 // The call fire: the raw numbers tested, the firing aimed, its action written.
-use acts::act;
+use fire_act::act;
 use scope::Answer;
 use scope::Firing;
 use scope::Link;
@@ -13,7 +13,7 @@ ghost use Prim.Native.Nat.{_≤_};
 ghost use Rattle.scope.specs.Fire.{aimed, fireAnswer, fireTable, onRule, onLink};
 ghost use Rattle.scope.specs.Numbers.{ruleOf, linkOf};
 ghost use Rattle.words.specs.Ready.{Sized};
-ghost use Rattle.rules.specs.Aimed.{Aimed};
+ghost use Rattle.fire_aim.specs.Aimed.{Aimed};
 
 // Test 3's part for the header, then the nodes.
 pub fn aim_at(t: &[u32], c: usize, r: Rule, link: Link) -> Firing
@@ -21,7 +21,7 @@ pub fn aim_at(t: &[u32], c: usize, r: Rule, link: Link) -> Firing
     ensures { λ f. ⌜ Aimed c (aimed (now (t .entry)) c r link) f ⌝ }
 {
     if gate::header_ok(c, t) {
-        rules::aim(t, c, r, link)
+        fire_aim::aim(t, c, r, link)
     } else {
         Firing::Refuse(Refusal::Damaged)
     }

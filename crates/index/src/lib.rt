@@ -1,12 +1,12 @@
 // The eleven calls of the table, in one place: whoever uses the library uses this crate.
-pub use amending::amend;
+pub use amend::amend;
 pub use fire::fire;
-pub use posting::post;
-pub use ranks::rank;
-pub use removal::drop;
+pub use post::post;
+pub use rank::rank;
+pub use drop::drop;
 pub use sound::check;
-pub use sums::total;
+pub use total::total;
 pub use tidy::tidy;
 pub use walk::find;
 pub use walk::start;
-pub use weigh::worth;
+pub use worth::worth;

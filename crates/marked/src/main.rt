@@ -64,7 +64,7 @@ fn m2() {
     pour(&mut t, 480);
     pour(&mut t, 510);
     say(index::tidy(&mut t, 10));
-    say(sums::height(&t));
+    say(total::height(&t));
     show(&t);
 }
 
@@ -81,7 +81,7 @@ fn m3() {
     pour_four(&mut t);
     say(index::worth(&t));
     say(index::tidy(&mut t, 10));
-    say(sums::height(&t));
+    say(total::height(&t));
     show(&t);
 }
 

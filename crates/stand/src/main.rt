@@ -1,4 +1,4 @@
 // The program `stand`: the calls of document 01 by lines of text.
 fn main() {
-    shift::run::run();
+    stand_shift::run::run();
 }

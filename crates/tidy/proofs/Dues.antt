@@ -14,18 +14,18 @@ use Rattle.scope.specs.declared.side.Link.{Link}
 use Rattle.scope.specs.declared.rule.Rule.{Rule}
 use Rattle.scope.specs.declared.rule.RuleIs.the-variants as rule-is
 use Rattle.scope.specs.declared.outcome.Nodes.{Nodes}
-use Rattle.rules.specs.Aimed.{Within}
-use Rattle.holders.specs.Codes.{linkOf}
-use Rattle.holders.specs.Away.{Unnoted}
-use Rattle.holders.proofs.DueNodes.{node-slots, nodes-lie, fired-is, whole-again}
-use Rattle.holders.proofs.DueNodes.{link-noted, away, holds-again, may-move, above-one, above-two}
-use Rattle.holders.proofs.AsBefore.{as-before}
-use Rattle.sight.specs.Sight.{sightOf}
+use Rattle.fire_aim.specs.Aimed.{Within}
+use Rattle.tidy_holders.specs.Codes.{linkOf}
+use Rattle.tidy_holders.specs.Away.{Unnoted}
+use Rattle.tidy_holders.proofs.DueNodes.{node-slots, nodes-lie, fired-is, whole-again}
+use Rattle.tidy_holders.proofs.DueNodes.{link-noted, away, holds-again, may-move, above-one, above-two}
+use Rattle.tidy_holders.proofs.AsBefore.{as-before}
+use Rattle.tidy_sight.specs.Sight.{sightOf}
 use Rattle.tidy.specs.Roused.{Rousing}
 use Rattle.tidy.specs.Running.{Due, DueAt, Acted, Fired, SameTests}
-use Rattle.sight.specs.declared.test.Sight.{Sight}
-use Rattle.sight.specs.declared.test.Sight.the-variants.{Missing, Seen}
-use Rattle.sight.proofs.Sights.{sight-is}
+use Rattle.tidy_sight.specs.declared.test.Sight.{Sight}
+use Rattle.tidy_sight.specs.declared.test.Sight.the-variants.{Missing, Seen}
+use Rattle.tidy_sight.proofs.Sights.{sight-is}
 
 module _ (t : List ℕ) (c v n : ℕ) {r : Rule} (d : passes true t c v n ≡ true) (e : ruleOf n ≡ rule-is.Known r)
     (link : Link) where

@@ -7,8 +7,8 @@ use native.Mathlib.Decide.{ℕ-discrete}
 use borrow.Author.Tests.{eq-eqb, ne-eqb}
 use Rattle.scope.specs.declared.outcome.Nodes.{Nodes}
 use Rattle.marks.specs.Marks.{bitAt, Marked}
-use Rattle.agenda.specs.Agenda.{Woken}
-use Rattle.holders.specs.Codes.{aboveOf}
+use Rattle.tidy_agenda.specs.Agenda.{Woken}
+use Rattle.tidy_holders.specs.Codes.{aboveOf}
 use Rattle.tidy.specs.Roused.{Slots, Rousing, On, NodesRoused, Roused}
 
 -- a slot that is off after slot k was put on was off before, and is another

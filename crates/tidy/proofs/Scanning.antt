@@ -11,10 +11,10 @@ use Rattle.scope.specs.Tidy.{passes}
 use Rattle.scope.specs.declared.outcome.Next.the-variants.{At, Nothing}
 use Rattle.words.specs.Ready.{Sized}
 use Rattle.marks.specs.Marks.{bitAt}
-use Rattle.agenda.specs.Agenda.{Cleared, Lowest}
+use Rattle.tidy_agenda.specs.Agenda.{Cleared, Lowest}
 use Rattle.marks.proofs.Passing.{all-marks}
-use Rattle.sight.specs.Stirring.{stirsAt}
-use Rattle.sight.proofs.Calm.{none-passes}
+use Rattle.tidy_sight.specs.Stirring.{stirsAt}
+use Rattle.tidy_sight.proofs.Calm.{none-passes}
 use Rattle.tidy.specs.Found.{Idle, Rested, Found}
 use Rattle.tidy.proofs.Order.{slots-none, slots-at}
 

@@ -5,8 +5,8 @@ use mathlib.Core.List.{List}
 use lib.ListN.{length}
 use Rattle.scope.specs.declared.outcome.Nodes.{Nodes}
 use Rattle.marks.specs.Marks.{bitAt}
-use Rattle.holders.specs.Codes.{aboveOf}
-use Rattle.holders.specs.Away.{NoNode, Unnoted}
+use Rattle.tidy_holders.specs.Codes.{aboveOf}
+use Rattle.tidy_holders.specs.Away.{NoNode, Unnoted}
 
 -- the nodes are slots that have a bit
 pub record Slots (m : List ℕ) (x : Nodes) : Type 0 where

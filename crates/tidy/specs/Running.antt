@@ -12,9 +12,9 @@ use Rattle.scope.specs.declared.outcome.Nodes.{Nodes}
 use Rattle.words.specs.Ready.{Sized}
 use Rattle.marks.specs.Marks.{bitAt}
 use Rattle.sound.specs.Whole.{Whole}
-use Rattle.rules.specs.Aimed.{Within}
-use Rattle.acts.specs.Wrote.{Kept}
-use Rattle.holders.specs.Holds.{Holds, Entries, Moving, editsOf, noted}
+use Rattle.fire_aim.specs.Aimed.{Within}
+use Rattle.fire_act.specs.Wrote.{Kept}
+use Rattle.tidy_holders.specs.Holds.{Holds, Entries, Moving, editsOf, noted}
 use Rattle.tidy.specs.Found.{Rested}
 use Rattle.tidy.specs.Roused.{Rousing, Roused}
 

@@ -5,8 +5,8 @@ use scope::Next;
 use scope::Nodes;
 use scope::Rule;
 use scope::RuleIs;
-use sight::Sight;
-use sight::look;
+use tidy_sight::Sight;
+use tidy_sight::look;
 ghost use mathlib.Core.Path.{_≡_};
 ghost use mathlib.Core.Bool.{cond};
 ghost use Rattle.scope.specs.Tidy.{quiet};
@@ -28,8 +28,8 @@ pub fn fire_nodes(
         (now (t .exit)) (now (h .exit)) (now (m .exit)) ⌝ }
 {
     let from = rouse(h, m, x);
-    acts::act(t, c, r, x);
-    holders::moved(h, r, x);
+    fire_act::act(t, c, r, x);
+    tidy_holders::moved(h, r, x);
     from
 }
 
@@ -49,7 +49,7 @@ pub fn fire_at(
     match Rule::of(n) {
         RuleIs::Unknown => 1,
         RuleIs::Known(r) => {
-            let link = holders::link(h, v);
+            let link = tidy_holders::link(h, v);
             match look(t, c, r, link, v) {
                 Sight::Missing => 1,
                 Sight::Seen(x) => fire_nodes(t, c, h, m, r, x),
@@ -86,7 +86,7 @@ pub fn run(t: &mut [u32], c: usize, budget: u32) -> u32
 {
     let mut h = [0u32; 4096];
     let mut m = [marks::ALL_ON; 64];
-    holders::fill(t, c, &mut h);
+    tidy_holders::fill(t, c, &mut h);
     run_on(t, c, &mut h, &mut m, budget)
 }
 

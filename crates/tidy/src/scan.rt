@@ -1,8 +1,8 @@
 // The stated order: the lowest slot, then the lowest rule, left by a label at the first that passes.
 use scope::Next;
 use scope::Rule;
-use sight::passes;
-use sight::stirs;
+use tidy_sight::passes;
+use tidy_sight::stirs;
 ghost use Rattle.words.specs.Ready.{Sized};
 ghost use Rattle.tidy.specs.Found.{Rested, Found};
 
@@ -13,7 +13,7 @@ pub fn first(limited: bool, t: &[u32], c: usize, m: &mut [u64; 64], from: usize)
 {
     let mut v: usize = from;
     'slots: loop {
-        v = agenda::lowest(m, v);
+        v = tidy_agenda::lowest(m, v);
         if c < v {
             break Next::Nothing;
         }
@@ -26,7 +26,7 @@ pub fn first(limited: bool, t: &[u32], c: usize, m: &mut [u64; 64], from: usize)
                 n += 1;
             }
         }
-        agenda::take_off(m, v);
+        tidy_agenda::take_off(m, v);
         v += 1;
     }
 }

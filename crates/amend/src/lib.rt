@@ -1,0 +1,75 @@
+// amend: other pieces and another state for a record that is there.
+use post::record_ok;
+use scope::Amending;
+use scope::Answer;
+use scope::Gate;
+use scope::Refusal;
+use scope::Slot;
+use scope::Walk;
+use settling::next_change;
+ghost use mathlib.Core.Path.{_≡_};
+ghost use Rattle.scope.specs.Amend.{amendingAt, amendPlan, amended, amendAnswer, amendTable};
+ghost use Rattle.scope.specs.declared.outcome.Amending.the-variants.{Change};
+ghost use Rattle.words.specs.Ready.{Ready};
+ghost use Rattle.walk.specs.Walked.{Inside};
+ghost use Rattle.settling.specs.Ends.{Does};
+ghost use Rattle.settling.specs.Planned.{Changeable, AmendPlanned};
+
+// Tests 5 and 7.
+pub fn amending_at(t: &[u32], c: usize, w: Walk) -> Amending
+    requires { ⌜ Ready (now t) c × Inside c w ⌝ }
+    ensures { λ r. ⌜ AmendPlanned (now (t .entry)) (amendingAt (now (t .entry)) w) r ⌝ }
+{
+    match w {
+        Walk::Damage => Amending::Refuse(Refusal::Damaged),
+        Walk::Miss { .. } => Amending::Refuse(Refusal::KeyAbsent),
+        Walk::Hit { slot, .. } => {
+            if words::change(t) < Answer::LAST_CHANGE {
+                Amending::Change(slot)
+            } else {
+                Amending::Refuse(Refusal::LastChange)
+            }
+        }
+    }
+}
+
+// What an amend is to do: read and tested before anything is written.
+pub fn plan_amend(t: &[u32], key: u32, pieces: u32, state: u32) -> Amending
+    ensures { λ r. ⌜ AmendPlanned (now (t .entry)) (amendPlan (now (t .entry)) key pieces state) r ⌝ }
+{
+    match gate::enter(t, record_ok(key, pieces, state)) {
+        Gate::Shut(why) => Amending::Refuse(why),
+        Gate::Open(c) => amending_at(t, c, walk::search(t, c, key)),
+    }
+}
+
+// The record of slot k with other pieces and another state.
+pub fn change_record(t: &mut [u32], k: usize, pieces: u32, state: u32) -> Answer
+    requires { ⌜ Changeable (now t) k ⌝ }
+    ensures { λ r. ⌜ Does (amended (now (t .entry)) pieces state (Change k)) r (now (t .exit)) ⌝ }
+{
+    let change = words::change(t);
+    let s = words::slot_at(t, k);
+    let new = Slot {
+        state,
+        key: s.key,
+        pieces,
+        left: s.left,
+        right: s.right,
+        lefth: s.lefth,
+        righth: s.righth,
+        last: s.last,
+    };
+    words::put_slot(t, k, new);
+    next_change(t, change, k)
+}
+
+// amend: a record's pieces and state.
+pub fn amend(t: &mut [u32], key: u32, pieces: u32, state: u32) -> Answer
+    ensures { λ r. ⌜ (r ≡ amendAnswer (now (t .entry)) key pieces state) × (now (t .exit) ≡ amendTable (now (t .entry)) key pieces state) ⌝ }
+{
+    match plan_amend(t, key, pieces, state) {
+        Amending::Refuse(why) => gate::refuse(why),
+        Amending::Change(slot) => change_record(t, slot, pieces, state),
+    }
+}

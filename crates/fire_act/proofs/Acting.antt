@@ -1,0 +1,23 @@
+-- The action of a rule, by its kind. Assumes nothing.
+use Prim.Native.Nat.{ℕ}
+use mathlib.Core.Path.{_≡_}
+use mathlib.Core.List.{List}
+use Rattle.scope.specs.Table.{written}
+use Rattle.scope.specs.Rules.{action, actionAt, highestAt}
+use Rattle.scope.specs.declared.rule.Kind.{Kind}
+use Rattle.scope.specs.declared.rule.Rule.{Rule}
+use Rattle.scope.specs.declared.outcome.Nodes.{Nodes}
+use Rattle.words.specs.Ready.{Sized}
+use Rattle.fire_aim.specs.Aimed.{Within}
+use Rattle.fire_act.specs.Wrote.{InNodes, Kept, Low}
+
+module _ {t : List ℕ} {c : ℕ} {r : Rule} {n : Nodes} (s : Sized t c) (w : Within c r n) (k : Kind) (e : r .kind ≡ k) where
+  -- what an action asks
+  pub asked : InNodes t c n × Low k (r .side) n
+  unfolding highestAt
+  asked = (record { sized = s; nodes = w .nodes }, rw e at (w .height))
+
+  -- what it does
+  pub acted : {u : List ℕ} → Kept c (written t (action k (r .side) n)) u → Kept c (written t (actionAt r n)) u
+  unfolding actionAt
+  acted a = record { is = rw e (a .is); sized = a .sized }

@@ -1,0 +1,75 @@
+-- `fire_act::action::act` meets its contract. Assumes nothing.
+use borrow.Author.Needs.{needs}
+use Rattle.fire_act.proofs.Acting.{asked, acted}
+use Rattle.scope.specs.declared.rule.Kind.the-variants.{Propagate, Lean, Even, Double}
+use Rattle.fire_act.proofs.action.act.Statement.{statement}
+use Rattle.fire_act.proofs.action.act.Tie as tie
+
+enum-told : tie.Need-enum-told
+enum-told c = search needs
+
+propagate-requires : tie.Need-propagate-requires
+propagate-requires c κs = let p = c .before .before .before .before .pre in asked (p .0) (p .1) Propagate (c .before .enum-told .given .1)
+
+enum-told-2 : tie.Need-enum-told-2
+enum-told-2 c = search needs
+
+rotate-requires : tie.Need-rotate-requires
+rotate-requires c κs = let p = c .before .before .before .before .pre in asked (p .0) (p .1) Lean (c .before .enum-told2 .given .1)
+
+enum-told-3 : tie.Need-enum-told-3
+enum-told-3 c = search needs
+
+rotate-requires-2 : tie.Need-rotate-requires-2
+rotate-requires-2 c κs = let p = c .before .before .before .before .pre in asked (p .0) (p .1) Even (c .before .enum-told3 .given .1)
+
+enum-told-4 : tie.Need-enum-told-4
+enum-told-4 c = search needs
+
+rotate-twice-requires : tie.Need-rotate-twice-requires
+rotate-twice-requires c κs = let p = c .before .before .before .before .pre in asked (p .0) (p .1) Double (c .before .enum-told4 .given .1)
+
+same-length : tie.Need-same-length
+same-length c = search needs
+
+returns : tie.Need-returns
+returns c = let p = c .before .before .before .before .before .before .before .pre in acted (p .0) (p .1) Propagate (c .before .before .before .before .enum-told .given .1) (c .before .before .propagate .ensures)
+
+same-length-2 : tie.Need-same-length-2
+same-length-2 c = search needs
+
+returns-2 : tie.Need-returns-2
+returns-2 c = let p = c .before .before .before .before .before .before .before .pre in acted (p .0) (p .1) Lean (c .before .before .before .before .enum-told2 .given .1) (c .before .before .rotate .ensures)
+
+same-length-3 : tie.Need-same-length-3
+same-length-3 c = search needs
+
+returns-3 : tie.Need-returns-3
+returns-3 c = let p = c .before .before .before .before .before .before .before .pre in acted (p .0) (p .1) Even (c .before .before .before .before .enum-told3 .given .1) (c .before .before .rotate2 .ensures)
+
+same-length-4 : tie.Need-same-length-4
+same-length-4 c = search needs
+
+returns-4 : tie.Need-returns-4
+returns-4 c = let p = c .before .before .before .before .before .before .before .pre in acted (p .0) (p .1) Double (c .before .before .before .before .enum-told4 .given .1) (c .before .before .rotate-twice .ensures)
+
+pub act-spec : {M : Type 1} → statement M
+act-spec =
+    tie.close
+    (tie.spec
+    enum-told
+    propagate-requires
+    enum-told-2
+    rotate-requires
+    enum-told-3
+    rotate-requires-2
+    enum-told-4
+    rotate-twice-requires
+    same-length
+    returns
+    same-length-2
+    returns-2
+    same-length-3
+    returns-3
+    same-length-4
+    returns-4)

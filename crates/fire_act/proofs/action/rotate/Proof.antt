@@ -1,0 +1,23 @@
+-- `fire_act::action::rotate` meets its contract. Assumes nothing.
+use denote.Ref.{now}
+use borrow.Author.Needs.{needs}
+use Rattle.fire_act.proofs.Actions.{rotate-written}
+use Rattle.fire_act.proofs.action.rotate.Statement.{statement}
+use Rattle.fire_act.proofs.action.rotate.Tie as tie
+
+rotate-links-requires : tie.Need-rotate-links-requires
+rotate-links-requires c κs = search needs
+
+rotate-heights-requires : tie.Need-rotate-heights-requires
+rotate-heights-requires c κs = search needs
+
+same-length : tie.Need-same-length
+same-length c = search needs
+
+returns : tie.Need-returns
+returns c = let a = c .before .before .before .before .before .before .before .before .before .args in
+    rotate-written (now (a .t)) (a .c) (a .n) (a .near) (c .before .before .before .before .before .before .rotate-links .ensures) (c .before .before .rotate-heights .ensures)
+
+pub rotate-spec : {M : Type 1} → statement M
+rotate-spec =
+    tie.close (tie.spec rotate-links-requires rotate-heights-requires same-length returns)

@@ -1,0 +1,47 @@
+-- `fire_act::action::rotate_heights` meets its contract. Assumes nothing.
+use denote.Ref.{now}
+use borrow.Author.Needs.{needs}
+use Rattle.fire_act.proofs.Actions.{heights-written}
+use Rattle.fire_act.proofs.action.rotate_heights.Statement.{statement}
+use Rattle.fire_act.proofs.action.rotate_heights.Tie as tie
+
+other-requires : tie.Need-other-requires
+other-requires c κs = search needs
+
+seen-requires : tie.Need-seen-requires
+seen-requires c κs = search needs
+
+seen-requires-2 : tie.Need-seen-requires-2
+seen-requires-2 c κs = search needs
+
+put-register-requires : tie.Need-put-register-requires
+put-register-requires c κs = search needs
+
+over-requires : tie.Need-over-requires
+over-requires c κs = search needs
+
+put-height-requires : tie.Need-put-height-requires
+put-height-requires c κs = let p = c .before .before .before .before .before .before .before .before .before .before .pre in (
+  record { sized = c .before .before .before .before .put-register .ensures .sized; first = p .0 .nodes .u-first; most = p .0 .nodes .u-most },
+  simp (c .over .ensures, c .before .before .before .before .before .before .seen2 .ensures, c .before .before .before .before .before .before .before .seen .ensures) (p .1),
+)
+
+same-length : tie.Need-same-length
+same-length c = search needs
+
+returns : tie.Need-returns
+returns c = let a = c .before .before .before .before .before .before .before .before .before .before .before .before .before .args in
+    heights-written (now (a .t)) (a .c) (a .n) (a .near) (c .before .before .before .before .before .before .before .before .before .before .before .other .ensures) (c .before .before .before .before .before .before .before .before .before .before .seen .ensures) (c .before .before .before .before .before .before .before .before .before .seen2 .ensures) (c .before .before .before .over .ensures) (c .before .before .before .before .before .before .before .put-register .ensures) (c .before .before .put-height .ensures)
+
+pub rotate-heights-spec : {M : Type 1} → statement M
+rotate-heights-spec =
+    tie.close
+    (tie.spec
+    other-requires
+    seen-requires
+    seen-requires-2
+    put-register-requires
+    over-requires
+    put-height-requires
+    same-length
+    returns)

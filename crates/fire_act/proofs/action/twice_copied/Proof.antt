@@ -1,0 +1,36 @@
+-- `fire_act::action::twice_copied` meets its contract. Assumes nothing.
+use denote.Ref.{now}
+use borrow.Author.Needs.{needs}
+use Rattle.fire_act.proofs.Actions.{copied-written}
+use Rattle.fire_act.proofs.action.twice_copied.Statement.{statement}
+use Rattle.fire_act.proofs.action.twice_copied.Tie as tie
+
+seen-requires : tie.Need-seen-requires
+seen-requires c κs = search needs
+
+other-requires : tie.Need-other-requires
+other-requires c κs = search needs
+
+put-register-requires : tie.Need-put-register-requires
+put-register-requires c κs = search needs
+
+put-register-requires-2 : tie.Need-put-register-requires-2
+put-register-requires-2 c κs = search needs
+
+same-length : tie.Need-same-length
+same-length c = search needs
+
+returns : tie.Need-returns
+returns c = let a = c .before .before .before .before .before .before .before .before .before .before .before .args in
+    copied-written (now (a .t)) (a .c) (a .n) (a .near) (c .before .before .before .before .before .before .before .other .ensures) (c .before .before .before .before .before .before .before .before .before .seen .ensures) (c .before .before .before .before .before .before .put-register .ensures) (c .before .before .put-register2 .ensures)
+
+pub twice-copied-spec : {M : Type 1} → statement M
+twice-copied-spec =
+    tie.close
+    (tie.spec
+    seen-requires
+    other-requires
+    put-register-requires
+    put-register-requires-2
+    same-length
+    returns)

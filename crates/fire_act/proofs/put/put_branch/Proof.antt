@@ -1,0 +1,22 @@
+-- `fire_act::put::put_branch` meets its contract. Assumes nothing.
+use native.Mathlib.Omega.{arith}
+use denote.Ref.{now}
+use borrow.Author.Needs.{needs}
+use Rattle.fire_act.proofs.Writes.{son-at, kept-set}
+use Rattle.words.proofs.Laws.{link-lt}
+use Rattle.fire_act.proofs.put.put_branch.Statement.{statement}
+use Rattle.fire_act.proofs.put.put_branch.Tie as tie
+
+put-link-word-requires : tie.Need-put-link-word-requires
+put-link-word-requires c κs = let p = c .before .before .pre in (omega arith, link-lt _ _ _ (p .sized) (p .most))
+
+same-length : tie.Need-same-length
+same-length c = search needs
+
+returns : tie.Need-returns
+returns c = let a = c .before .before .before .before .before .args in
+    let p = c .before .before .before .before .before .pre in
+    kept-set (now (a .t)) (a .c) _ (a .branch) (p .sized) (rw (son-at (a .holder) (a .side) (p .first)) at (c .before .before .put-link-word .ensures))
+
+pub put-branch-spec : {M : Type 1} → statement M
+put-branch-spec = tie.close (tie.spec put-link-word-requires same-length returns)

@@ -1,0 +1,21 @@
+-- `fire_act::put::put_height` meets its contract. Assumes nothing.
+use native.Mathlib.Omega.{arith}
+use borrow.Author.Needs.{needs}
+use Rattle.words.proofs.Laws.{register-lt}
+use Rattle.fire_act.proofs.put.put_height.Statement.{statement}
+use Rattle.fire_act.proofs.put.put_height.Tie as tie
+
+cast-put-register : tie.Need-cast-put-register
+cast-put-register c = search needs
+
+put-register-requires : tie.Need-put-register-requires
+put-register-requires c κs = let p = c .before .before .pre .0 in (p .first, omega arith, register-lt _ _ _ (c .before .before .args .side) (p .sized) (p .first) (p .most))
+
+same-length : tie.Need-same-length
+same-length c = search needs
+
+returns : tie.Need-returns
+returns c = search needs
+
+pub put-height-spec : {M : Type 1} → statement M
+put-height-spec = tie.close (tie.spec cast-put-register put-register-requires same-length returns)

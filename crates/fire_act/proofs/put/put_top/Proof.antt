@@ -1,0 +1,18 @@
+-- `fire_act::put::put_top` meets its contract. Assumes nothing.
+use native.Mathlib.Omega.{arith}
+use borrow.Author.Needs.{needs}
+use Rattle.words.proofs.Laws.{link-lt}
+use Rattle.fire_act.proofs.put.put_top.Statement.{statement}
+use Rattle.fire_act.proofs.put.put_top.Tie as tie
+
+put-link-requires : tie.Need-put-link-requires
+put-link-requires c κs = let p = c .before .before .pre in (omega arith, link-lt _ _ _ (p .0) (p .1), omega arith)
+
+same-length : tie.Need-same-length
+same-length c = search needs
+
+returns : tie.Need-returns
+returns c = search needs
+
+pub put-top-spec : {M : Type 1} → statement M
+put-top-spec = tie.close (tie.spec put-link-requires same-length returns)

@@ -1,0 +1,41 @@
+-- `fire_aim::aim_v` meets its contract. Assumes nothing.
+use mathlib.Core.Path.{sym, _∙_}
+use native.Mathlib.Omega.{arith}
+use borrow.Author.Needs.{needs}
+use Rattle.fire_aim.proofs.Aims.{aim-v-not, aim-v-near, aim-v-got}
+use Rattle.words.proofs.Laws.{link-lt}
+use Rattle.fire_aim.proofs.aim_v.Statement.{statement}
+use Rattle.fire_aim.proofs.aim_v.Tie as tie
+
+link-at-requires : tie.Need-link-at-requires
+link-at-requires c κs = let p = c .before .pre in (omega arith, link-lt _ _ _ (p .sized) (p .holder))
+
+take-requires : tie.Need-take-requires
+take-requires c κs = let p = c .before .before .pre in (p .sized, rw (c .link-at .ensures) (p .holds))
+
+enum-known-why : tie.Need-enum-known-why
+enum-known-why c = search needs
+
+enum-known-sv : tie.Need-enum-known-sv
+enum-known-sv c = search needs
+
+aim-u-requires : tie.Need-aim-u-requires
+aim-u-requires c κs = aim-v-near (c .before .before .before .before .before .before .pre) (c .before .before .before .before .before .before .args .r) _ (c .before .before .before .before .link-at .ensures) (sym (c .before .before .before .take .ensures) ∙ c .before .sv .given .1)
+
+returns : tie.Need-returns
+returns c = aim-v-not (c .before .before .before .before .before .before .pre) (c .before .before .before .before .before .before .args .r) _ (c .before .before .before .before .link-at .ensures) (sym (c .before .before .before .take .ensures) ∙ c .before .why .given .1)
+
+returns-2 : tie.Need-returns-2
+returns-2 c = aim-v-got (c .before .before .before .before .before .before .before .pre) (c .before .before .before .before .before .before .before .args .r) _ (c .before .before .before .before .before .link-at .ensures) (sym (c .before .before .before .before .take .ensures) ∙ c .before .before .sv .given .1) (c .aim-u .ensures)
+
+pub aim-v-spec : {M : Type 1} → statement M
+aim-v-spec =
+    tie.close
+    (tie.spec
+    link-at-requires
+    take-requires
+    enum-known-why
+    enum-known-sv
+    aim-u-requires
+    returns
+    returns-2)

@@ -1,0 +1,26 @@
+-- `fire_aim::guarded` meets its contract. Assumes nothing.
+use mathlib.Core.Path.{sym}
+use borrow.Author.Needs.{needs}
+use Rattle.scope.specs.Rules.{guardAt}
+use Rattle.fire_aim.proofs.guarded.Statement.{statement}
+use Rattle.fire_aim.proofs.guarded.Tie as tie
+
+seen-requires : tie.Need-seen-requires
+seen-requires c κs = search needs
+
+seen-requires-2 : tie.Need-seen-requires-2
+seen-requires-2 c κs = search needs
+
+seen-requires-3 : tie.Need-seen-requires-3
+seen-requires-3 c κs = search needs
+
+guard-requires : tie.Need-guard-requires
+guard-requires c κs = search needs
+
+returns : tie.Need-returns
+unfolding guardAt
+returns c = simp (sym (c .before .before .before .seen .ensures), sym (c .before .before .seen2 .ensures), sym (c .before .seen3 .ensures), sym (c .guard .ensures))
+
+pub guarded-spec : {M : Type 1} → statement M
+guarded-spec =
+    tie.close (tie.spec seen-requires seen-requires-2 seen-requires-3 guard-requires returns)

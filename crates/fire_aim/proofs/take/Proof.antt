@@ -1,0 +1,28 @@
+-- `fire_aim::take` meets its contract. Assumes nothing.
+use mathlib.Core.Path.{sym}
+use borrow.Author.Tests.{eq-eqb, ne-eqb}
+use borrow.Author.Needs.{needs}
+use Rattle.scope.specs.Fire.{takeOf}
+use Rattle.fire_aim.proofs.take.Statement.{statement}
+use Rattle.fire_aim.proofs.take.Tie as tie
+
+returns : tie.Need-returns
+unfolding takeOf
+returns c = simp (eq-eqb _ _ (c .if1 .taken))
+
+slot-at-requires : tie.Need-slot-at-requires
+slot-at-requires c κs = search needs
+
+fit-requires : tie.Need-fit-requires
+fit-requires c κs = search needs
+
+returns-2 : tie.Need-returns-2
+unfolding takeOf
+returns-2 c = simp (ne-eqb _ _ (c .before .before .before .if1 .left), sym (c .before .before .slot-at .ensures), sym (c .before .fit .ensures), c .if2 .taken)
+
+returns-3 : tie.Need-returns-3
+unfolding takeOf
+returns-3 c = simp (ne-eqb _ _ (c .before .before .before .if1 .left), sym (c .before .before .slot-at .ensures), sym (c .before .fit .ensures), c .if2 .left)
+
+pub take-spec : {M : Type 1} → statement M
+take-spec = tie.close (tie.spec returns slot-at-requires fit-requires returns-2 returns-3)

@@ -1,0 +1,20 @@
+-- `fire_guards::turn_guard` meets its contract. Assumes nothing.
+use borrow.Author.Needs.{needs}
+use Rattle.fire_guards.proofs.Turning.{turn-guard}
+use Rattle.fire_guards.proofs.turn_guard.Statement.{statement}
+use Rattle.fire_guards.proofs.turn_guard.Tie as tie
+
+reliable-requires : tie.Need-reliable-requires
+reliable-requires c κs = search needs
+
+heavy-requires : tie.Need-heavy-requires
+heavy-requires c κs = search needs
+
+lean-requires : tie.Need-lean-requires
+lean-requires c κs = search needs
+
+returns : tie.Need-returns
+returns c = let a = c .before .before .before .args in simp (c .before .before .reliable .ensures, c .before .heavy .ensures, c .lean .ensures) (turn-guard (a .even) (a .v) (a .u))
+
+pub turn-guard-spec : {M : Type 1} → statement M
+turn-guard-spec = tie.close (tie.spec reliable-requires heavy-requires lean-requires returns)

@@ -1,0 +1,19 @@
+-- `post::record_ok` meets its contract. Assumes nothing.
+use mathlib.Core.Path.{sym}
+use borrow.Author.Needs.{needs}
+use Rattle.scope.specs.Post.{recordOk}
+use Rattle.post.proofs.record_ok.Statement.{statement}
+use Rattle.post.proofs.record_ok.Tie as tie
+
+pieces-ok-requires : tie.Need-pieces-ok-requires
+pieces-ok-requires c κs = search needs
+
+state-ok-requires : tie.Need-state-ok-requires
+state-ok-requires c κs = search needs
+
+returns : tie.Need-returns
+unfolding recordOk
+returns c = simp (sym (c .before .pieces-ok .ensures), sym (c .state-ok .ensures))
+
+pub record-ok-spec : {M : Type 1} → statement M
+record-ok-spec = tie.close (tie.spec pieces-ok-requires state-ok-requires returns)

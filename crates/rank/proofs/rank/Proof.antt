@@ -1,0 +1,75 @@
+-- `rank::rank` meets its contract. Assumes nothing.
+use mathlib.Core.Path.{sym}
+use native.Mathlib.Omega.{arith}
+use lib.Dec.{eqb}
+use borrow.Author.Tests.{eqb-false, not-true}
+use Rattle.scope.specs.Sums.{rankAnswer}
+use Rattle.sound.proofs.Opened.{opened, asked, headed}
+use borrow.Author.Needs.{needs}
+use Rattle.rank.proofs.rank.Statement.{statement}
+use Rattle.rank.proofs.rank.Tie as tie
+
+enter-sound-requires : tie.Need-enter-sound-requires
+enter-sound-requires c κs = search needs
+
+enum-known-why : tie.Need-enum-known-why
+enum-known-why c = search needs
+
+refuse-requires : tie.Need-refuse-requires
+refuse-requires c κs = search needs
+
+enum-known-c : tie.Need-enum-known-c
+enum-known-c c = search needs
+
+wide-requires : tie.Need-wide-requires
+wide-requires c κs = search needs
+
+rank-in-requires : tie.Need-rank-in-requires
+rank-in-requires c κs =
+    let r = c .before .before .before .before .before .before .args .r in
+    let some = eqb-false r 0 (not-true (eqb r 0) (asked _ _ _
+    (c .before .before .before .before .enter-sound .ensures) (c .before .before .c .given .1))) in (
+      omega (arith, c .wide .ensures),
+      opened _ _ _ (c .before .before .before .before .enter-sound .ensures)
+          (c .before .before .c .given .1),
+    )
+
+ranked-requires : tie.Need-ranked-requires
+ranked-requires c κs =
+    headed (opened _ _ _ (c .before .before .before .before .before .enter-sound .ensures)
+    (c .before .before .before .c .given .1))
+
+returns : tie.Need-returns
+unfolding rankAnswer
+returns c =
+    simp (
+      sym (c .before .before .before .before .enter-sound .ensures),
+      c .before .before .why .given .1,
+      sym
+          (c .refuse .ensures),
+    )
+
+returns-2 : tie.Need-returns-2
+unfolding rankAnswer
+returns-2 c =
+    let found = rw (c .before .before .wide .ensures) at (c .before .rank-in .ensures) in
+    simp (
+      sym (c .before .before .before .before .before .before .enter-sound .ensures),
+      c .before .before .before .before .c .given .1,
+      sym found,
+      sym (c .ranked .ensures),
+    )
+
+pub rank-spec : {M : Type 1} → statement M
+rank-spec =
+    tie.close
+    (tie.spec
+    enter-sound-requires
+    enum-known-why
+    refuse-requires
+    enum-known-c
+    wide-requires
+    rank-in-requires
+    ranked-requires
+    returns
+    returns-2)

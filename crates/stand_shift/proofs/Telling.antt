@@ -1,0 +1,58 @@
+-- The loop of `answer_all`: what was handed on to be written, and what is still to be. Assumes nothing.
+use Prim.Native.Nat.{ℕ, _+_, _≤_, _<_}
+use mathlib.Core.Path.{_≡_, refl, sym, ap, _∙_}
+use mathlib.Core.List.{List, [], _++_, append-nil}
+use native.Mathlib.Omega.{arith}
+use lib.ListN.{length, take, drop, replicate, length-append, length-drop}
+use lib.Seq.{take-at, drop-at, length-take-le}
+use borrow.Author.Tests.{lt-ltb, le-ltb}
+use Rattle.stand_shift.specs.Run.{Run, idle, after, wholeRun, refusedText, runText, Answered}
+use Rattle.stand_shift.proofs.Runs.{after-both, no-lines}
+
+-- `said` was handed on, so many bytes; the run of the lines from the place `from` on, on the words t, is left
+pub record Told (s t : List ℕ) (from sent : ℕ) : Type 0 where
+  pub said : List ℕ
+  pub count : length said ≡ sent
+  pub whole : wholeRun (replicate 124 0) s ≡ after said (wholeRun t (drop from s))
+
+-- at first nothing
+pub told-none : (s t : List ℕ) → t ≡ replicate 124 0 → Told s t 0 0
+told-none s t e = record { said = []; count = refl; whole = rw e refl }
+
+-- then the filled part of the buffer is handed on
+pub told-more : {s t u out : List ℕ} {from sent next at : ℕ} → Told s t from sent → Answered t s from u out next at
+    → Told s u next (sent + at)
+told-more {out = out} {at = at} w a = record {
+  said = w .said ++ take at out;
+  count = omega (arith, w .count, length-append (w .said) (take at out), length-take-le at out (a .within));
+  whole = w .whole ∙ ap (after (w .said)) (a .is) ∙ after-both (w .said) (take at out) _;
+}
+
+run-text : (s : List ℕ) → length s ≤ 65536 → runText s ≡ wholeRun (replicate 124 0) s .text
+unfolding runText
+run-text s h = rw (le-ltb 65536 (length s) h)
+
+-- IT IS THE NEXT PIECE OF WHAT THE RUN PRINTS
+pub told-piece : {s t u out : List ℕ} {from sent next at : ℕ} → Told s t from sent → Answered t s from u out next at
+    → length s ≤ 65536 → take at out ≡ take at (drop sent (runText s))
+told-piece {s} {t} {u} {out} {from} {sent} {next} {at} w a h =
+    let rest = wholeRun u (drop next s) .text in
+    let e : runText s ≡ w .said ++ (take at out ++ rest) =
+    run-text s h ∙ ap (λ (r : Run). r .text) (w .whole ∙ ap (after (w .said)) (a .is)) in
+    let d : drop sent (runText s) ≡ take at out ++ rest = ap (drop sent) e ∙ drop-at (w .said) _ sent (w .count) in
+    sym (ap (take at) d ∙ take-at (take at out) rest at (length-take-le at out (a .within)))
+
+-- AND AT THE END OF THE INPUT ALL OF IT WAS HANDED ON, AND THE TABLE IS THAT AFTER THE RUN
+pub told-all : {s t : List ℕ} {from sent : ℕ} (w : Told s t from sent) → length s ≤ 65536 → length s ≤ from
+    → (sent ≡ length (runText s)) × (t ≡ wholeRun (replicate 124 0) s .table)
+told-all {s} {t} {from} w h l =
+    let rest = drop from s in
+    let e : wholeRun (replicate 124 0) s ≡ after (w .said) (idle t) =
+    w .whole ∙ ap (after (w .said)) (no-lines (length rest) t rest (omega (arith, length-drop from s))) in
+    let x : runText s ≡ w .said = run-text s h ∙ ap (λ (r : Run). r .text) e ∙ append-nil (w .said) in
+    (sym (ap length x ∙ w .count), sym (ap (λ (r : Run). r .table) e))
+
+-- an input over 65,536 bytes is refused, however it goes on
+pub told-refused : (s : List ℕ) → 65536 < length s → runText s ≡ refusedText
+unfolding runText
+told-refused s h = rw (lt-ltb 65536 (length s) h)

@@ -1,0 +1,56 @@
+-- `text_lines::form::record_form` meets its contract. Assumes nothing.
+use Rattle.text_lines.proofs.Trying.{form-tried}
+use borrow.Author.Needs.{needs}
+use Rattle.text_lines.proofs.form.record_form.Statement.{statement}
+use Rattle.text_lines.proofs.form.record_form.Tie as tie
+use Rattle.text_lines.proofs.form.record_form.Reads as reads
+use Rattle.text_lines.proofs.form.record_form.Lts as lts
+use Rattle.text_lines.proofs.form.made.Reads as made-reads
+use Rattle.text_lines.proofs.form.name.Reads as name-reads
+use Rattle.text_lines.proofs.form.three.Reads as three-reads
+use Rattle.text_fields.proofs.read.end.Reads as end-reads
+
+-- src/form.rt:62:25
+slice-aggregate-three : tie.Need-slice-aggregate-three
+slice-aggregate-three c = search needs
+
+-- src/form.rt:62:35
+slice-aggregate-three-2 : tie.Need-slice-aggregate-three-2
+slice-aggregate-three-2 c = search needs
+
+-- src/form.rt:62:48
+slice-aggregate-three-3 : tie.Need-slice-aggregate-three-3
+slice-aggregate-three-3 c = search needs
+
+-- src/form.rt:62:60
+name-requires : tie.Need-name-requires
+name-requires c κs = search needs
+
+-- src/form.rt:62:9
+three-requires : tie.Need-three-requires
+three-requires c κs = search needs
+
+-- src/form.rt:63:14
+end-requires : tie.Need-end-requires
+end-requires c κs = search needs
+
+-- src/form.rt:63:5
+made-requires : tie.Need-made-requires
+made-requires c κs = search needs
+
+-- src/form.rt:59:1
+returns : tie.Need-returns
+returns c = form-tried _ _ _ (c .before .before .before .name .ensures) (c .before .before .three .ensures) (c .before .end .ensures) (c .made .ensures)
+
+pub record-form-spec : {M : Type 1} → statement M
+record-form-spec =
+    tie.close
+    (tie.spec
+    slice-aggregate-three
+    slice-aggregate-three-2
+    slice-aggregate-three-3
+    name-requires
+    three-requires
+    end-requires
+    made-requires
+    returns)

@@ -1,0 +1,27 @@
+-- `text_list::put_listed` meets its contract. Assumes nothing.
+use borrow.Author.Needs.{needs}
+use Rattle.text_list.specs.List.{listed}
+use Rattle.text_print.proofs.Laid.{both}
+use Rattle.text_list.proofs.put_listed.Statement.{statement}
+use Rattle.text_list.proofs.put_listed.Tie as tie
+
+answer-requires : tie.Need-answer-requires
+answer-requires c κs = search needs
+
+put-answer-requires : tie.Need-put-answer-requires
+put-answer-requires c κs = search needs
+
+put-records-requires : tie.Need-put-records-requires
+put-records-requires c κs = search needs
+
+same-length : tie.Need-same-length
+same-length c = search needs
+
+returns : tie.Need-returns
+unfolding listed
+returns c = both (rw (c .before .before .before .before .before .before .before .answer .ensures) at (c .before .before .before .before .before .before .put-answer .ensures)) (c .before .before .put-records .ensures)
+
+pub put-listed-spec : {M : Type 1} → statement M
+put-listed-spec =
+    tie.close
+    (tie.spec answer-requires put-answer-requires put-records-requires same-length returns)

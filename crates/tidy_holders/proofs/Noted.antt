@@ -1,0 +1,72 @@
+-- Links noted one after the other. Assumes nothing.
+use Prim.Native.Nat.{ℕ}
+use mathlib.Core.Path.{_≡_, refl, _∙_}
+use mathlib.Core.List.{List}
+use lib.ListN.{set, length-set}
+use Rattle.scope.specs.Numbers.{other}
+use Rattle.scope.specs.Table.{slotAt, son}
+use Rattle.scope.specs.declared.slot.Slot.{Slot}
+use Rattle.scope.specs.declared.side.Side.{Side}
+use Rattle.scope.specs.declared.side.Side.the-variants.{Left, Right}
+use Rattle.scope.specs.declared.rule.Kind.{Kind}
+use Rattle.scope.specs.declared.rule.Kind.the-variants.{Propagate}
+use Rattle.scope.specs.declared.outcome.Nodes.{Nodes}
+use Rattle.bridge.specs.Edit.{rotates, rotatesTwice}
+use Rattle.tidy_holders.specs.Codes.{linkFor, codeOf}
+use Rattle.tidy_holders.specs.Holds.{Entries, Noting, Sons, Moving}
+use Rattle.tidy_holders.specs.Holds.{noted, notedPart, topNoted, lowNoted, sonsNoted, editsOf}
+
+pub entered : {h : List ℕ} {k holder x y : ℕ} → Noting h k holder → x ≡ y → Entries (set h k y) (set h k x)
+entered {h} {k} {holder} {x} n e = record { is = rw e; room = length-set h k x ∙ n .room }
+
+pub sons-noted : {t h h1 h2 : List ℕ} {k a b : ℕ} {s : Slot} → Sons t h k → s ≡ slotAt t k
+    → a ≡ son s Left → b ≡ son s Right
+    → Entries (set h a (codeOf (linkFor k Left))) h1 → Entries (set h1 b (codeOf (linkFor k Right))) h2
+    → Entries (sonsNoted t k h) h2
+unfolding sonsNoted
+sons-noted n e p q a b = record { is = b .is ∙ rw (a .is, q, p, e) refl; room = b .room }
+
+module _ {h : List ℕ} {n : Nodes} {near far : Side} (m : Moving h n near) (e : far ≡ other near) {h1 h2 : List ℕ} where
+  pub turned-noted : {h3 : List ℕ} {k : ℕ} → k ≡ son (n .su) far
+      → Entries (set h (n .u) (codeOf (linkFor (n .link .holder) (n .link .side)))) h1
+      → Entries (set h1 (n .v) (codeOf (linkFor (n .u) far))) h2
+      → Entries (set h2 k (codeOf (linkFor (n .v) near))) h3 → Entries (noted (rotates near n) h) h3
+  unfolding noted notedPart
+  turned-noted q a b d = record { is = d .is ∙ rw (b .is, a .is, q, e) refl; room = d .room }
+
+  pub top-noted : {h3 : List ℕ} → Entries (set h (n .w) (codeOf (linkFor (n .link .holder) (n .link .side)))) h1
+      → Entries (set h1 (n .u) (codeOf (linkFor (n .w) near))) h2
+      → Entries (set h2 (n .v) (codeOf (linkFor (n .w) far))) h3 → Entries (topNoted near n h) h3
+  unfolding topNoted
+  top-noted a b d = record { is = d .is ∙ rw (b .is, a .is, e) refl; room = d .room }
+
+  pub low-noted : {j k : ℕ} → j ≡ son (n .sw) near → k ≡ son (n .sw) far
+      → Entries (set h j (codeOf (linkFor (n .u) far))) h1
+      → Entries (set h1 k (codeOf (linkFor (n .v) near))) h2 → Entries (lowNoted near n h) h2
+  unfolding lowNoted
+  low-noted p q a b = record { is = b .is ∙ rw (a .is, q, p, e) refl; room = b .room }
+
+module _ {h : List ℕ} {n : Nodes} {near : Side} (m : Moving h n near) where
+  -- a double rotation, its upper part and then its lower
+  pub twice-noted : {h1 h2 : List ℕ} → Entries (topNoted near n h) h1 → Entries (lowNoted near n h1) h2
+      → Entries (noted (rotatesTwice near n) h) h2
+  unfolding noted notedPart topNoted lowNoted
+  twice-noted a b = record { is = b .is ∙ rw (a .is) refl; room = b .room }
+
+  -- what is asked stays
+  pub still-moving : {said h1 : List ℕ} → Entries said h1 → Moving h1 n near
+  still-moving e = record {
+    room = e .room;
+    holder = m .holder;
+    v-most = m .v-most;
+    u-most = m .u-most;
+    w-most = m .w-most;
+    u-far = m .u-far;
+    w-near = m .w-near;
+    w-far = m .w-far;
+  }
+
+  -- a propagation moves nothing
+  pub none-noted : {k : Kind} → k ≡ Propagate → Entries (noted (editsOf k near n) h) h
+  unfolding noted notedPart editsOf
+  none-noted e = record { is = rw e refl; room = m .room }

@@ -1,0 +1,30 @@
+-- `tidy_holders::pass::note_sons` meets its contract. Assumes nothing.
+use mathlib.Core.Path.{_∙_, ap}
+use Rattle.scope.specs.declared.slot.Slot.{Slot}
+use Rattle.tidy_holders.proofs.Noted.{sons-noted}
+use borrow.Author.Needs.{needs}
+use Rattle.tidy_holders.proofs.pass.note_sons.Statement.{statement}
+use Rattle.tidy_holders.proofs.pass.note_sons.Tie as tie
+
+slot-at-requires : tie.Need-slot-at-requires
+slot-at-requires c κs = search needs
+
+son-requires : tie.Need-son-requires
+son-requires c κs = search needs
+
+note-requires : tie.Need-note-requires
+note-requires c κs = let p = c .before .before .before .before .pre in let e = c .son .ensures ∙ ap (λ (s : Slot). s .left) (c .before .before .slot-at .ensures) in record { room = p .room; slot = rw e (p .left); most = p .most }
+
+son-requires-2 : tie.Need-son-requires-2
+son-requires-2 c κs = search needs
+
+note-requires-2 : tie.Need-note-requires-2
+note-requires-2 c κs = let p = c .before .before .before .before .before .before .before .pre in let e = c .son2 .ensures ∙ ap (λ (s : Slot). s .right) (c .before .before .before .before .before .slot-at .ensures) in record { room = c .before .before .note .ensures .room; slot = rw e (p .right); most = p .most }
+
+returns : tie.Need-returns
+returns c = sons-noted (c .before .before .before .before .before .before .before .before .pre) (c .before .before .before .before .before .before .slot-at .ensures) (c .before .before .before .before .son .ensures) (c .before .son2 .ensures) (c .before .before .before .note .ensures) (c .note2 .ensures)
+
+pub note-sons-spec : {M : Type 1} → statement M
+note-sons-spec =
+    tie.close
+    (tie.spec slot-at-requires son-requires note-requires son-requires-2 note-requires-2 returns)

@@ -1,0 +1,84 @@
+-- What is noted of a table's links, and what is asked of a note. Assumes nothing: these are statements and definitions.
+use Prim.Native.Nat.{ℕ, _+_, _*_, _≤_}
+use mathlib.Core.Path.{_≡_}
+use mathlib.Core.List.{List, [], _∷_}
+use lib.ListN.{length, getD, set}
+use Rattle.scope.specs.Numbers.{other}
+use Rattle.scope.specs.Table.{slotAt, son, InTable}
+use Rattle.scope.specs.declared.side.Side.{Side}
+use Rattle.scope.specs.declared.side.Side.the-variants.{Left, Right}
+use Rattle.scope.specs.declared.rule.Kind.{Kind}
+use Rattle.scope.specs.declared.rule.Kind.the-variants.{Propagate, Lean, Even, Double}
+use Rattle.scope.specs.declared.outcome.Nodes.{Nodes}
+use Rattle.bridge.specs.Edit.{Part, sonOn, registerOn, Edit, propagates, rotates, rotatesTwice}
+use Rattle.tidy_holders.specs.Codes.{linkFor, codeOf, heldAt}
+
+-- the number of a link of a table of c slots; slot 0 holds one link only
+pub record CodeIn (c q : ℕ) : Type 0 where
+  pub most : q ≤ 2 * c + 1
+  pub proper : q ≡ 1 → ⊥
+
+-- EVERY SLOT HANGS WHERE IT IS NOTED, and so at one link only
+pub record Holds (t : List ℕ) (c : ℕ) (h : List ℕ) : Type 0 where
+  pub room : length h ≡ 4096
+  pub is : (q : ℕ) → CodeIn c q → 1 ≤ heldAt t q → getD h (heldAt t q) 0 ≡ q
+
+-- the entries h are as said, one for each slot
+pub record Entries (said h : List ℕ) : Type 0 where
+  pub is : h ≡ said
+  pub room : length h ≡ 4096
+
+-- a link of `holder` is to be noted for slot k
+pub record Noting (h : List ℕ) (k holder : ℕ) : Type 0 where
+  pub room : length h ≡ 4096
+  pub slot : k ≤ 4095
+  pub most : holder ≤ 4095
+
+-- those of the two sons of slot k
+pub record Sons (t h : List ℕ) (k : ℕ) : Type 0 where
+  pub room : length h ≡ 4096
+  pub table : InTable t k
+  pub most : k ≤ 4095
+  pub left : slotAt t k .left ≤ 4095
+  pub right : slotAt t k .right ≤ 4095
+
+unfoldable pub sonsNoted : List ℕ → ℕ → List ℕ → List ℕ
+sonsNoted t k h =
+    set (set h (slotAt t k .left) (codeOf (linkFor k Left))) (slotAt t k .right) (codeOf (linkFor k Right))
+
+-- a link that is written is noted for the slot that hangs there now; slot 0 stands for none
+unfoldable pub notedPart : Part → ℕ → ℕ → List ℕ → List ℕ
+notedPart (sonOn s) k x h = set h x (codeOf (linkFor k s))
+notedPart (registerOn s) k x h = h
+
+unfoldable pub noted : List Edit → List ℕ → List ℕ
+noted [] h = h
+noted (e ∷ es) h = noted es (notedPart (e .part) (e .slot) (e .what) h)
+
+-- the edits of a rule
+unfoldable pub editsOf : Kind → Side → Nodes → List Edit
+editsOf Propagate s n = propagates s n
+editsOf Lean s n = rotates s n
+editsOf Even s n = rotates s n
+editsOf Double s n = rotatesTwice s n
+
+-- what a firing at these nodes asks: every slot that it moves or hangs something at has a number
+pub record Moving (h : List ℕ) (n : Nodes) (near : Side) : Type 0 where
+  pub room : length h ≡ 4096
+  pub holder : n .link .holder ≤ 4095
+  pub v-most : n .v ≤ 4095
+  pub u-most : n .u ≤ 4095
+  pub w-most : n .w ≤ 4095
+  pub u-far : son (n .su) (other near) ≤ 4095
+  pub w-near : son (n .sw) near ≤ 4095
+  pub w-far : son (n .sw) (other near) ≤ 4095
+
+-- a double rotation in two parts
+unfoldable pub topNoted : Side → Nodes → List ℕ → List ℕ
+topNoted s n h =
+    set (set (set h (n .w) (codeOf (linkFor (n .link .holder) (n .link .side)))) (n .u) (codeOf (linkFor (n .w) s)))
+    (n .v) (codeOf (linkFor (n .w) (other s)))
+
+unfoldable pub lowNoted : Side → Nodes → List ℕ → List ℕ
+lowNoted s n h =
+    set (set h (son (n .sw) s) (codeOf (linkFor (n .u) (other s)))) (son (n .sw) (other s)) (codeOf (linkFor (n .v) s))

@@ -1,0 +1,66 @@
+// What a firing moves: the slots whose link it writes.
+use crate::entry::note;
+use scope::Kind;
+use scope::Nodes;
+use scope::Rule;
+use scope::Side;
+ghost use Rattle.bridge.specs.Edit.{rotates, rotatesTwice};
+ghost use Rattle.tidy_holders.specs.Holds.{Entries, Moving, noted, topNoted, lowNoted, editsOf};
+
+// u takes v's link, v hangs at u's far side, and u's old far son at v's near one.
+pub fn turned(h: &mut [u32; 4096], n: Nodes, near: Side)
+    requires { ⌜ Moving (now h) n near ⌝ }
+    ensures { λ _. ⌜ Entries (noted (rotates near n) (now (h .entry))) (now (h .exit)) ⌝ }
+{
+    let link = n.link;
+    let side = link.side;
+    let far = near.other();
+    note(h, n.u, link.holder, side);
+    note(h, n.v, n.u, far);
+    note(h, words::son(n.su, far), n.v, near);
+}
+
+// w takes v's link, with u near and v far.
+pub fn twice_top(h: &mut [u32; 4096], n: Nodes, near: Side)
+    requires { ⌜ Moving (now h) n near ⌝ }
+    ensures { λ _. ⌜ Entries (topNoted near n (now (h .entry))) (now (h .exit)) ⌝ }
+{
+    let link = n.link;
+    let side = link.side;
+    note(h, n.w, link.holder, side);
+    note(h, n.u, n.w, near);
+    note(h, n.v, n.w, near.other());
+}
+
+// w's old sons hang at u's far side and v's near side.
+pub fn twice_sons(h: &mut [u32; 4096], n: Nodes, near: Side)
+    requires { ⌜ Moving (now h) n near ⌝ }
+    ensures { λ _. ⌜ Entries (lowNoted near n (now (h .entry))) (now (h .exit)) ⌝ }
+{
+    let far = near.other();
+    note(h, words::son(n.sw, near), n.u, far);
+    note(h, words::son(n.sw, far), n.v, near);
+}
+
+pub fn turned_twice(h: &mut [u32; 4096], n: Nodes, near: Side)
+    requires { ⌜ Moving (now h) n near ⌝ }
+    ensures { λ _. ⌜ Entries (noted (rotatesTwice near n) (now (h .entry))) (now (h .exit)) ⌝ }
+{
+    twice_top(h, n, near);
+    twice_sons(h, n, near);
+}
+
+// The entries after a rule has fired at its nodes.
+pub fn moved(h: &mut [u32; 4096], r: Rule, n: Nodes)
+    requires { ⌜ Moving (now h) n (r .side) ⌝ }
+    ensures { λ _. ⌜ Entries (noted (editsOf (r .kind) (r .side) n) (now (h .entry))) (now (h .exit)) ⌝ }
+{
+    let kind = r.kind;
+    let near = r.side;
+    match kind {
+        Kind::Propagate => {}
+        Kind::Lean => turned(h, n, near),
+        Kind::Even => turned(h, n, near),
+        Kind::Double => turned_twice(h, n, near),
+    }
+}

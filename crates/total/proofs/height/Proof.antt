@@ -1,0 +1,66 @@
+-- `total::height` meets its contract. Assumes nothing.
+use Rattle.sound.proofs.Opened.{opened, headed}
+use Rattle.total.specs.Hangs.{heightAnswer}
+use mathlib.Core.Path.{sym}
+use borrow.Author.Needs.{needs}
+use Rattle.total.proofs.height.Statement.{statement}
+use Rattle.total.proofs.height.Tie as tie
+
+enter-sound-requires : tie.Need-enter-sound-requires
+enter-sound-requires c κs = search needs
+
+enum-known-why : tie.Need-enum-known-why
+enum-known-why c = search needs
+
+refuse-requires : tie.Need-refuse-requires
+refuse-requires c κs = search needs
+
+enum-known-c : tie.Need-enum-known-c
+enum-known-c c = search needs
+
+height-in-requires : tie.Need-height-in-requires
+height-in-requires c κs = opened _ _ _ (c .before .before .before .enter-sound .ensures) (c .before .c .given .1)
+
+size-requires : tie.Need-size-requires
+size-requires c κs = search needs
+
+told-requires : tie.Need-told-requires
+told-requires c κs =
+    headed (opened _ _ _ (c .before .before .before .before .before .enter-sound .ensures)
+    (c .before .before .before .c .given .1))
+
+returns : tie.Need-returns
+unfolding heightAnswer
+returns c =
+    simp (
+      sym (c .before .before .before .before .enter-sound .ensures),
+      c .before .before .why .given .1,
+      sym
+          (c .refuse .ensures),
+    )
+
+returns-2 : tie.Need-returns-2
+unfolding heightAnswer
+returns-2 c =
+    simp (
+      sym (c .before .before .before .before .before .before .enter-sound .ensures),
+      c .before .before .before .before .c .given .1,
+      sym (c .before .before .height-in .ensures),
+      sym
+          (c .before .size .ensures),
+      sym (c .told .ensures),
+    )
+
+pub height-spec : {M : Type 1} → statement M
+height-spec =
+    tie.close
+    (tie.spec
+    enter-sound-requires
+    enum-known-why
+    refuse-requires
+    enum-known-c
+    height-in-requires
+    size-requires
+    told-requires
+    returns
+    returns-2)

@@ -1,0 +1,59 @@
+-- `total::total` meets its contract. Assumes nothing.
+use Rattle.scope.specs.Sums.{totalAnswer}
+use Rattle.sound.proofs.Opened.{opened, headed}
+use mathlib.Core.Path.{sym}
+use borrow.Author.Needs.{needs}
+use Rattle.total.proofs.total.Statement.{statement}
+use Rattle.total.proofs.total.Tie as tie
+
+enter-sound-requires : tie.Need-enter-sound-requires
+enter-sound-requires c κs = search needs
+
+enum-known-why : tie.Need-enum-known-why
+enum-known-why c = search needs
+
+refuse-requires : tie.Need-refuse-requires
+refuse-requires c κs = search needs
+
+enum-known-c : tie.Need-enum-known-c
+enum-known-c c = search needs
+
+total-in-requires : tie.Need-total-in-requires
+total-in-requires c κs = opened _ _ _ (c .before .before .before .enter-sound .ensures) (c .before .c .given .1)
+
+told-requires : tie.Need-told-requires
+told-requires c κs =
+    headed (opened _ _ _ (c .before .before .before .before .enter-sound .ensures) (c .before .before .c .given .1))
+
+returns : tie.Need-returns
+unfolding totalAnswer
+returns c =
+    simp (
+      sym (c .before .before .before .before .enter-sound .ensures),
+      c .before .before .why .given .1,
+      sym
+          (c .refuse .ensures),
+    )
+
+returns-2 : tie.Need-returns-2
+unfolding totalAnswer
+returns-2 c =
+    simp (
+      sym (c .before .before .before .before .before .enter-sound .ensures),
+      c .before .before .before .c .given .1,
+      sym (c .before .total-in .ensures),
+      sym (c .told .ensures),
+    )
+
+pub total-spec : {M : Type 1} → statement M
+total-spec =
+    tie.close
+    (tie.spec
+    enter-sound-requires
+    enum-known-why
+    refuse-requires
+    enum-known-c
+    total-in-requires
+    told-requires
+    returns
+    returns-2)

@@ -1,0 +1,38 @@
+-- `total::total_in` meets its contract. Assumes nothing.
+use native.Mathlib.Omega.{arith}
+use Rattle.scope.specs.Sums.{totalOf}
+use Rattle.total.specs.Hangs.{totalOn}
+use Rattle.total.proofs.Down.{rooted, in-order, said, says-leaf}
+use borrow.Author.Needs.{needs}
+use Rattle.total.proofs.total_in.Statement.{statement}
+use Rattle.total.proofs.total_in.Tie as tie
+
+records-requires : tie.Need-records-requires
+records-requires c κs = search needs
+
+root-requires : tie.Need-root-requires
+root-requires c κs = search needs
+
+total-at-requires : tie.Need-total-at-requires
+total-at-requires c κs =
+    let start = c .before .before .before .before in
+    let at = c .before .root .ensures in
+    let h = rooted (start .pre) at (c .before .before .records .ensures) in
+    let order = in-order (start .pre) at h in
+    (omega (arith, c .if1 .left), record { hangs = h; order = order; room = omega (arith, h .few, h .most) })
+
+returns : tie.Need-returns
+unfolding totalOf
+returns c =
+    let start = c .before .before .before .before in
+    let what = totalOf (start .args .key) in
+    said (start .pre) (c .before .root .ensures) what (says-leaf _ _ what (c .if1 .taken))
+
+returns-2 : tie.Need-returns-2
+returns-2 c =
+    let start = c .before .before .before .before .before in
+    let key = start .args .key in
+    omega (arith, said (start .pre) (c .before .before .root .ensures) (totalOn 0 key) (c .total-at .ensures))
+
+pub total-in-spec : {M : Type 1} → statement M
+total-in-spec = tie.close (tie.spec records-requires root-requires total-at-requires returns returns-2)

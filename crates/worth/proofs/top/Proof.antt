@@ -1,0 +1,29 @@
+-- `worth::top` meets its contract. Assumes nothing.
+use mathlib.Core.Path.{refl, ap, _∙_}
+use native.Mathlib.Omega.{arith}
+use Rattle.scope.specs.Tree.{over}
+use Rattle.scope.specs.declared.slot.Slot.{Slot}
+use Rattle.total.proofs.Down.{forked, says-leaf}
+use Rattle.worth.specs.Weight.{topOf}
+use Rattle.worth.proofs.Under.{top-here}
+use borrow.Author.Needs.{needs}
+use Rattle.worth.proofs.top.Statement.{statement}
+use Rattle.worth.proofs.top.Tie as tie
+
+slot-at-requires : tie.Need-slot-at-requires
+slot-at-requires c κs = search needs
+
+local-height-requires : tie.Need-local-height-requires
+local-height-requires c κs = search needs
+
+returns : tie.Need-returns
+unfolding topOf
+returns c = (says-leaf _ _ topOf (c .if1 .taken), omega arith)
+
+returns-2 : tie.Need-returns-2
+returns-2 c =
+    top-here (forked (c .before .before .before .before .pre .1) (c .before .before .if1 .left) refl)
+    (c .local-height .ensures ∙ ap (λ (s : Slot). over (s .lefth) (s .righth)) (c .before .slot-at .ensures))
+
+pub top-spec : {M : Type 1} → statement M
+top-spec = tie.close (tie.spec slot-at-requires local-height-requires returns returns-2)

@@ -1,0 +1,53 @@
+-- `worth::worth_in` meets its contract. Assumes nothing.
+use mathlib.Core.Path.{refl}
+use native.Mathlib.Omega.{arith}
+use Rattle.total.proofs.Down.{rooted, says-leaf}
+use Rattle.worth.specs.Weight.{topOf}
+use Rattle.worth.proofs.Under.{weigh-leaf, worth-whole}
+use borrow.Author.Needs.{needs}
+use Rattle.worth.proofs.worth_in.Statement.{statement}
+use Rattle.worth.proofs.worth_in.Tie as tie
+
+records-requires : tie.Need-records-requires
+records-requires c κs = search needs
+
+root-requires : tie.Need-root-requires
+root-requires c κs = search needs
+
+size-requires : tie.Need-size-requires
+size-requires c κs = search needs
+
+top-requires : tie.Need-top-requires
+top-requires c κs =
+    let v = c .before .before in
+    (_, rooted (v .before .before .before .pre) (v .root .ensures) (v .before .records .ensures))
+
+weigh-at-requires : tie.Need-weigh-at-requires
+weigh-at-requires c κs =
+    let v = c .before .before .before in
+    let h = rooted (v .before .before .before .pre) (v .root .ensures) (v .before .records .ensures) in (
+      omega (arith, c .before .before .if1 .left),
+      h,
+      record {
+        few = omega (arith, c .before .size .ensures);
+        most = omega (arith, c .before .size .ensures, h .most);
+        over-it = c .top .ensures .1;
+      },
+    )
+
+returns : tie.Need-returns
+returns c =
+    let v = c .before in
+    worth-whole (v .before .before .before .pre) (v .root .ensures) refl (v .before .records .ensures)
+    (says-leaf _ _ topOf (c .if1 .taken)) (weigh-leaf _ _ _ _ (c .if1 .taken))
+
+returns-2 : tie.Need-returns-2
+returns-2 c =
+    let v = c .before .before .before .before in
+    worth-whole (v .before .before .before .pre) (v .root .ensures) (c .before .before .size .ensures)
+    (v .before .records .ensures) (c .before .top .ensures .0) (c .weigh-at .ensures)
+
+pub worth-in-spec : {M : Type 1} → statement M
+worth-in-spec =
+    tie.close
+    (tie.spec records-requires root-requires size-requires top-requires weigh-at-requires returns returns-2)
