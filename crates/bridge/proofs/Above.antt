@@ -21,7 +21,8 @@ use Rattle.words.proofs.Laws.{fit-son, link-son}
 use Rattle.sound.proofs.Frame.{frame}
 use Rattle.tree.specs.Rewrite.{mk}
 use Rattle.tree.proofs.Sides.{times-mk}
-use Rattle.bridge.specs.Edit.{sonOn, registerOn, withPart, shape}
+use Rattle.scope.specs.Edits.{sonOn, registerOn}
+use Rattle.bridge.specs.Edit.{withPart, shape}
 use Rattle.bridge.specs.Below.{Hangs, Below, Cut}
 use Rattle.bridge.specs.Seek.{beside}
 use Rattle.bridge.proofs.Looks.{shape-self, near-son, near-register, fit-from, Looks, look, spell}

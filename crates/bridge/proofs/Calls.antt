@@ -11,7 +11,7 @@ use lib.Dec.{ltb, eqb}
 use borrow.Author.Tests.{eq-eqb, ne-eqb, le-leb, eqb-true, ltb-false}
 use Rattle.scope.proofs.Bools.{by-bool}
 use Rattle.scope.specs.Numbers.{rootLink, slotsOf, sideOf, linkOf, knownLink, ruleOf}
-use Rattle.scope.specs.Table.{slotsIn}
+use Rattle.scope.specs.Table.{slotWords, slotsIn}
 use Rattle.scope.specs.Tree.{Tree, times}
 use Rattle.scope.specs.Fire.{aimed, onRule, onLink, firePlan, fired, fireOf}
 use Rattle.scope.specs.declared.rule.Rule.{Rule}
@@ -41,8 +41,8 @@ use Rattle.bridge.proofs.Fires.{hangs-root, same-way, free-holder}
 pub sized-slots : {t : List ℕ} {c : ℕ} → Sized t c → slotsIn (length t) ≡ Within (record { count = c })
 unfolding slotsIn slotsOf
 sized-slots {t} {c} z =
-    let a : length t % 8 ≡ 4 = omega arith in
-    let b : length t / 8 ≡ c = omega arith in
+    let a : length t % slotWords ≡ 4 = omega arith in
+    let b : length t / slotWords ≡ c = omega arith in
     rw (a, b, ne-eqb c 0 (λ q. omega arith), le-leb c 4095 (z .most)) refl
 
 -- a link of a table of c slots; slot 0 has only its left

@@ -10,11 +10,12 @@ use lib.ListN.{set, length-set}
 use lib.Seq.{getD-set-same, getD-set-other}
 use lib.Dec.{eqb}
 use borrow.Author.Tests.{eq-eqb, ne-eqb}
-use Rattle.scope.specs.Table.{word, rootWord, base, slotAt, written}
+use Rattle.scope.specs.Table.{slotWords, word, rootWord, base, slotAt, written}
 use Rattle.scope.specs.declared.side.Side.the-variants.{Left, Right}
 use Rattle.scope.specs.declared.slot.Slot.{Slot}
 use Rattle.words.specs.Ready.{Sized}
-use Rattle.bridge.specs.Edit.{Part, sonOn, registerOn, offset, shape, withPart, Edit, placeOf, writes, edited, rooted}
+use Rattle.scope.specs.Edits.{Part, sonOn, registerOn, offset, Edit, placeOf, writes}
+use Rattle.bridge.specs.Edit.{shape, withPart, edited, rooted}
 
 -- a slot of eight numbers
 abbrev ofWords : (ℕ → ℕ) → Slot
@@ -29,7 +30,7 @@ ofWords g = record {
   last = g 7;
 }
 
-words-slot : (t : List ℕ) (k : ℕ) (g : ℕ → ℕ) → ((f : ℕ) → f < 8 → word t (base k + f) ≡ g f) → slotAt t k ≡ ofWords g
+words-slot : (t : List ℕ) (k : ℕ) (g : ℕ → ℕ) → ((f : ℕ) → f < slotWords → word t (base k + f) ≡ g f) → slotAt t k ≡ ofWords g
 unfolding slotAt
 words-slot t k g e =
     let z : word t (base k) ≡ g 0 = rw (add-zero (base k)) at (e 0 (omega arith)) in
@@ -45,7 +46,7 @@ part-of (sonOn Right) x g = refl
 part-of (registerOn Left) x g = refl
 part-of (registerOn Right) x g = refl
 
-offset-lt : (p : Part) → offset p < 8
+offset-lt : (p : Part) → offset p < slotWords
 offset-lt (sonOn Left) = omega arith
 offset-lt (sonOn Right) = omega arith
 offset-lt (registerOn Left) = omega arith
@@ -59,7 +60,7 @@ module _ {t : List ℕ} {c : ℕ} (z : Sized t c) (k x : ℕ) (p : Part) where
       ∙ part-of p x (λ f. word t (base k + f))
       ∙ ap (withPart p x) (sym (words-slot t k (λ f. word t (base k + f)) (λ f h. refl)))
     where
-      at : (f : ℕ) → f < 8 → Dec (f ≡ offset p)
+      at : (f : ℕ) → f < slotWords → Dec (f ≡ offset p)
           → word (set t (base k + offset p) x) (base k + f) ≡ changed p x (λ f. word t (base k + f)) f
       at f h (yes e) = rw (e, eq-eqb (offset p) (offset p) refl) (getD-set-same t (base k + offset p) x 0 (omega (arith, offset-lt p)))
       at f h (no ne) = rw (ne-eqb f (offset p) ne) (getD-set-other t (base k + offset p) (base k + f) x 0 (λ q. ne (omega arith)))

@@ -19,7 +19,8 @@ use Rattle.scope.specs.declared.side.Link.{Link}
 use Rattle.scope.specs.declared.slot.Slot.{Slot}
 use Rattle.scope.specs.declared.outcome.Leftmost.the-variants as leftmost
 use Rattle.words.proofs.Laws.{fit-left, link-son}
-use Rattle.bridge.specs.Edit.{sonOn, shape, withPart}
+use Rattle.scope.specs.Edits.{sonOn}
+use Rattle.bridge.specs.Edit.{shape, withPart}
 use Rattle.bridge.specs.Below.{Hangs, Below}
 use Rattle.bridge.specs.Without.{least, leastLink}
 

@@ -7,7 +7,7 @@ use lib.Dec.{eqb}
 use Rattle.scope.proofs.Bools.{and-l, and-r}
 use Rattle.scope.specs.Numbers.{other}
 use Rattle.scope.specs.Table.{slotAt, son, register}
-use Rattle.scope.specs.Fit.{stateOk, piecesOk, linkOk, fitSlot}
+use Rattle.scope.specs.Fit.{stateOk, piecesOk, linkOk, tailOk, fitSlot}
 use Rattle.scope.specs.Tree.{Batch, Tree}
 use Rattle.scope.specs.Sound.{batchAt, Spells}
 use Rattle.scope.specs.Rules.{seen, pair}
@@ -17,7 +17,8 @@ use Rattle.scope.specs.declared.side.Side.the-variants.{Left, Right}
 use Rattle.scope.specs.declared.slot.Slot.{Slot}
 use Rattle.words.proofs.Laws.{fits}
 use Rattle.tree.specs.Rewrite.{mk}
-use Rattle.bridge.specs.Edit.{sonOn, registerOn, shape, withPart}
+use Rattle.scope.specs.Edits.{sonOn, registerOn}
+use Rattle.bridge.specs.Edit.{shape, withPart}
 
 -- what a part's change makes of a slot seen from a side
 module _ (s : Side) (x : Slot) where
@@ -71,7 +72,7 @@ core a b p l r z e =
     }
 
 module _ (c : ℕ) (x : Slot) (e : fitSlot c x ≡ true) where
-  slot-core : Core (stateOk (x .state)) (not (eqb (x .key) 0)) (piecesOk (x .pieces)) (eqb (x .last) 0)
+  slot-core : Core (stateOk (x .state)) (not (eqb (x .key) 0)) (piecesOk (x .pieces)) (tailOk (x .last))
   unfolding fitSlot
   slot-core =
       core _ _ _ (linkOk c (x .left) (x .lefth)) (linkOk c (x .right) (x .righth)) _ e

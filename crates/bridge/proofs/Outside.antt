@@ -14,7 +14,8 @@ use Rattle.scope.specs.declared.side.Link.{Link}
 use Rattle.scope.specs.declared.slot.Slot.{Slot}
 use Rattle.sound.proofs.Frame.{frame, none-at-0}
 use Rattle.words.proofs.Laws.{link-son}
-use Rattle.bridge.specs.Edit.{sonOn, Edit, edit, edited, rooted}
+use Rattle.scope.specs.Edits.{sonOn, Edit, edit}
+use Rattle.bridge.specs.Edit.{edited, rooted}
 use Rattle.bridge.specs.Below.{relinked}
 use Rattle.bridge.proofs.Edited.{Inside, Rewritten}
 use Rattle.bridge.proofs.Looks.{same-son}

@@ -12,7 +12,7 @@ use borrow.Author.Tests.{ne-eqb, le-leb}
 use Rattle.scope.proofs.Bools.{and-l, and-r}
 use Rattle.scope.specs.Numbers.{rootLink}
 use Rattle.scope.specs.Table.{word, rootWord, countWord, changeWord, slotAt, withSlot, linkAt, written}
-use Rattle.scope.specs.Fit.{stateOk, piecesOk, linkOk, fitSlot, headerOk}
+use Rattle.scope.specs.Fit.{stateOk, piecesOk, linkOk, tailOk, fitSlot, headerOk}
 use Rattle.scope.specs.Tree.{Batch, Tree, leaf, node, size, times, same}
 use Rattle.scope.specs.Sound.{Spells}
 use Rattle.scope.specs.Post.{recordOk, leafSlot, hung}
@@ -27,7 +27,8 @@ use Rattle.tree.specs.Rewrite.{mk}
 use Rattle.tree.specs.Place.{subtree}
 use Rattle.tree.proofs.Steps.{on-top}
 use Rattle.tree.proofs.Sides.{times-mk}
-use Rattle.bridge.specs.Edit.{sonOn, Edit, edit, writes, edited, rooted}
+use Rattle.scope.specs.Edits.{sonOn, Edit, edit, writes}
+use Rattle.bridge.specs.Edit.{edited, rooted}
 use Rattle.bridge.specs.Below.{Hangs, Below, Cut}
 use Rattle.bridge.specs.Leads.{linkAlong}
 use Rattle.bridge.specs.Seek.{seek, route, endOf}
@@ -46,7 +47,7 @@ use Rattle.bridge.proofs.Settles.{settles, root-slots, recounted-settle
 
 -- a new leaf is fit
 fit-leaf : (c key pieces state : ℕ) → recordOk key pieces state ≡ true → fitSlot c (leafSlot key pieces state) ≡ true
-unfolding fitSlot recordOk linkOk
+unfolding fitSlot recordOk linkOk tailOk
 fit-leaf c key pieces state r =
     simp (
       and-r (not (eqb key 0) && piecesOk pieces) (stateOk state) r,

@@ -25,7 +25,8 @@ use Rattle.words.proofs.Laws.{fit-son}
 use Rattle.sound.proofs.Frame.{frame}
 use Rattle.tree.specs.Rewrite.{mk}
 use Rattle.tree.proofs.Sides.{times-mk}
-use Rattle.bridge.specs.Edit.{sonOn, registerOn, edit, placeOf, writes, edited, rooted}
+use Rattle.scope.specs.Edits.{sonOn, registerOn, edit, placeOf, writes}
+use Rattle.bridge.specs.Edit.{edited, rooted}
 use Rattle.bridge.specs.Below.{Hangs, relinked, emptied, Cut}
 use Rattle.bridge.specs.Without.{least, leastLink, withoutLeast}
 use Rattle.bridge.proofs.Edited.{Rewritten, rewritten}

@@ -16,7 +16,9 @@ use Rattle.scope.specs.declared.outcome.Nodes.{Nodes}
 use Rattle.words.proofs.Laws.{fit-son}
 use Rattle.tree.specs.Rewrite.{mk, doubled}
 use Rattle.tree.proofs.Sides.{times-mk}
-use Rattle.bridge.specs.Edit.{sonOn, registerOn, Edit, edit, writes, edited, shape, rotatesTwice}
+use Rattle.scope.specs.Edits.{sonOn, registerOn, Edit, edit, writes}
+use Rattle.scope.specs.Rules.{rotatedTwice}
+use Rattle.bridge.specs.Edit.{edited, shape}
 use Rattle.bridge.specs.Below.{Hangs, Below}
 use Rattle.bridge.proofs.Edited.{Rewritten, rewritten}
 use Rattle.bridge.proofs.Looks.{shape-self, near-son, far-son, near-register, far-register, fit-from, Looks, look, spell}
@@ -96,23 +98,14 @@ module _ {t : List ℕ} {c : ℕ} (l : Link) (s : Side) (dv du dw : Batch) (v u 
   twice-in : InTree c whole turns
   twice-in = (w-in, (w-in, (in-u, (in-v, (in-u, (in-v, (w-in, (w-in, tt))))))))
 
-  twice-writes : writes (rotatesTwice s three) ≡ rotatedTwice s three
-  unfolding writes linkAt
-  twice-writes =
-      simp (
-        ne-eqb x 0 (λ q. omega (arith, lv .there)),
-        ne-eqb y 0 (λ q. omega (arith, lu .there)),
-        ne-eqb z 0 (λ q. omega (arith, look-w .there)),
-      )
-
-  module _ {t′ : List ℕ} (r : Rewritten t t′ c (rotatesTwice s three))
+  module _ {t′ : List ℕ} (r : Rewritten t t′ c (rotatedTwice s three))
       (lowU : localHeight (doubledU u w) ≤ mostHeight) (lowV : localHeight (doubledV v w) ≤ mostHeight) where
     slot-v : slotAt t′ x
         ≡ shape s (slotAt t x) (son (slotAt t z) (other s)) (son (slotAt t x) (other s))
         (doubledV (seen s (slotAt t x)) (seen s (slotAt t z)))
     unfolding edited
     slot-v =
-        r .slots x (lv .there) ∙ ap (edited (rotatesTwice s three) x) (sym (shape-self s (slotAt t x)))
+        r .slots x (lv .there) ∙ ap (edited (rotatedTwice s three) x) (sym (shape-self s (slotAt t x)))
         ∙ simp (
           ne-eqb x (l .holder) (apart x in-v),
           ne-eqb x y (x-y l s dv du v u m n far h),
@@ -126,7 +119,7 @@ module _ {t : List ℕ} {c : ℕ} (l : Link) (s : Side) (dv du dw : Batch) (v u 
         ≡ shape s (slotAt t y) (son (slotAt t y) s) (son (slotAt t z) s) (doubledU (seen s (slotAt t y)) (seen s (slotAt t z)))
     unfolding edited
     slot-u =
-        r .slots y (lu .there) ∙ ap (edited (rotatesTwice s three) y) (sym (shape-self s (slotAt t y)))
+        r .slots y (lu .there) ∙ ap (edited (rotatedTwice s three) y) (sym (shape-self s (slotAt t y)))
         ∙ simp (
           ne-eqb y (l .holder) (apart y in-u),
           ne-eqb y x (λ q. x-y l s dv du v u m n far h (sym q)),
@@ -142,7 +135,7 @@ module _ {t : List ℕ} {c : ℕ} (l : Link) (s : Side) (dv du dw : Batch) (v u 
         (localHeight (doubledV (seen s (slotAt t x)) (seen s (slotAt t z)))))
     unfolding edited
     slot-w =
-        r .slots z (look-w .there) ∙ ap (edited (rotatesTwice s three) z) (sym (shape-self s (slotAt t z)))
+        r .slots z (look-w .there) ∙ ap (edited (rotatedTwice s three) z) (sym (shape-self s (slotAt t z)))
         ∙ simp (
           ne-eqb z (l .holder) (apart z w-in),
           ne-eqb z x (λ q. x-z (sym q)),
@@ -154,7 +147,7 @@ module _ {t : List ℕ} {c : ℕ} (l : Link) (s : Side) (dv du dw : Batch) (v u 
           far-register,
         )
 
-    away : (k : ℕ) → 1 ≤ times k m + times k e + times k f + times k far → Away k (rotatesTwice s three)
+    away : (k : ℕ) → 1 ≤ times k m + times k e + times k f + times k far → Away k (rotatedTwice s three)
     away k i =
         let nx : k ≡ x → ⊥ = λ q. omega (arith, sum k, h .once k, same-one k x q) in
         let ny : k ≡ y → ⊥ = λ q. omega (arith, sum k, h .once k, same-one k y q) in
@@ -175,20 +168,19 @@ module _ {t : List ℕ} {c : ℕ} (l : Link) (s : Side) (dv du dw : Batch) (v u 
         (look-w .holds)
         (spell t′ c y du _ m e s (slotAt t y) _ _ (lu .there) slot-u
         (fu .other-links _ _ _ (fu .near) (fw .near)) (lu .holds)
-        (stays (rotatesTwice s three) r _ m (λ k i. away k (omega arith)) (lu .nearSon))
-        (stays (rotatesTwice s three) r _ e (λ k i. away k (omega arith)) (look-w .nearSon)))
+        (stays (rotatedTwice s three) r _ m (λ k i. away k (omega arith)) (lu .nearSon))
+        (stays (rotatedTwice s three) r _ e (λ k i. away k (omega arith)) (look-w .nearSon)))
         (spell t′ c x dv _ f far s (slotAt t x) _ _ (lv .there) slot-v
         (fv .other-links _ _ _ (fw .far) (fv .far)) (lv .holds)
-        (stays (rotatesTwice s three) r _ f (λ k i. away k (omega arith)) (look-w .farSon))
-        (stays (rotatesTwice s three) r _ far (λ k i. away k (omega arith)) (lv .farSon))))
+        (stays (rotatedTwice s three) r _ f (λ k i. away k (omega arith)) (look-w .farSon))
+        (stays (rotatedTwice s three) r _ far (λ k i. away k (omega arith)) (lv .farSon))))
 
   pub twice-below : max (localHeight (doubledU u w)) (localHeight (doubledV v w)) ≤ mostHeight
-      → Below t (written t (rotatedTwice s three)) c l whole (doubled s dv du v u dw w m e f far)
+      → Below t (written t (writes (rotatedTwice s three))) c l whole (doubled s dv du v u dw w m e f far)
   twice-below low =
-      let r = rewritten (h .sized) (rotatesTwice s three) (h .holder, in-inside c _ turns twice-in) in
+      let r = rewritten (h .sized) (rotatedTwice s three) (h .holder, in-inside c _ turns twice-in) in
       let lowU : localHeight (doubledU u w) ≤ mostHeight = omega arith in
       let lowV : localHeight (doubledV v w) ≤ mostHeight = omega arith in
-      rw (← twice-writes)
       (record {
         sized = r .sized;
         top = z;

@@ -5,7 +5,7 @@ use mathlib.Core.List.{List, [], _∷_}
 use native.Mathlib.Omega.{arith}
 use lib.ListN.{length, set, length-set}
 use lib.Seq.{getD-set-same, getD-set-other}
-use Rattle.scope.specs.Table.{word, base, slotAt, withSlot, Write, put, written}
+use Rattle.scope.specs.Table.{slotWords, word, base, slotAt, withSlot, Write, put, written}
 use Rattle.scope.specs.declared.slot.Slot.{Slot}
 use Rattle.words.specs.Ready.{Sized}
 use Rattle.sound.proofs.Frame.{slot-words, slot-set}
@@ -60,7 +60,7 @@ module _ {t : List ℕ} {c : ℕ} (z : Sized t c) (k : ℕ) (s : Slot) (first : 
       put (base k) (s .state) ∷ put (base k + 1) (s .key) ∷ put (base k + 2) (s .pieces) ∷ put (base k + 3) (s .left)
       ∷ put (base k + 4) (s .right) ∷ put (base k + 5) (s .lefth) ∷ put (base k + 6) (s .righth) ∷ put (base k + 7) (s .last) ∷ []
 
-  elsewhere : (i : ℕ) → ((f : ℕ) → f < 8 → i ≡ base k + f → ⊥) → word (withSlot t k s) i ≡ word t i
+  elsewhere : (i : ℕ) → ((f : ℕ) → f < slotWords → i ≡ base k + f → ⊥) → word (withSlot t k s) i ≡ word t i
   unfolding withSlot written
   elsewhere i h =
       rest t i eight (

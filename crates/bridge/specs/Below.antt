@@ -10,7 +10,8 @@ use Rattle.scope.specs.Sound.{Spells}
 use Rattle.scope.specs.declared.side.Link.{Link}
 use Rattle.scope.specs.declared.slot.Slot.{Slot}
 use Rattle.words.specs.Ready.{Sized}
-use Rattle.bridge.specs.Edit.{sonOn, registerOn, withPart}
+use Rattle.scope.specs.Edits.{sonOn, registerOn}
+use Rattle.bridge.specs.Edit.{withPart}
 
 -- the tree S hangs at link l: each of its slots stands in it once, and the holder not at all
 pub record Hangs (t : List ℕ) (c : ℕ) (l : Link) (S : Tree) : Type 0 where

@@ -5,7 +5,7 @@ use mathlib.Core.Bool.{true}
 use mathlib.Core.List.{List, [], map}
 use native.Mathlib.Omega.{arith}
 use lib.ListN.{length-replicate, getD-replicate}
-use Rattle.scope.specs.Table.{word, changeWord}
+use Rattle.scope.specs.Table.{tableWords, word, changeWord}
 use Rattle.scope.specs.Tree.{leaf, inOrder}
 use Rattle.scope.specs.Sound.{Spells, treeIn}
 use Rattle.scope.specs.Answers.{Done, accepted, gate}
@@ -46,12 +46,12 @@ pub record Started (c : ℕ) (d : Done) : Type 0 where
 
 empty-tree : (c : ℕ) → treeIn (zeros c) c ≡ leaf
 unfolding Spells
-empty-tree c = sym (only-tree (zeros c) c (zeros-hold c) leaf (getD-replicate (4 + 8 * c) 0 0 0 (omega arith)))
+empty-tree c = sym (only-tree (zeros c) c (zeros-hold c) leaf (getD-replicate (tableWords c) 0 0 0 (omega arith)))
 
 zeros-started : (c : ℕ) → Sized (zeros c) c → Started c (record { answer = accepted 0 0 0 0; words = zeros c })
 unfolding inOrder
 zeros-started c z =
-    let none-yet : word (zeros c) changeWord ≡ 0 = getD-replicate (4 + 8 * c) changeWord 0 0 (omega arith) in
+    let none-yet : word (zeros c) changeWord ≡ 0 = getD-replicate (tableWords c) changeWord 0 0 (omega arith) in
     record {
       answer = refl;
       whole = record { sized = z; sound = zeros-hold c };
@@ -63,4 +63,4 @@ unfolding startOf
 start-ledger {t} {c} z =
     let opens : gate t true (λ n. true) ≡ Open c = gate-opens true (λ n. true) z refl refl in
     rw (opens, ← z .room)
-    (zeros-started c (record { room = sym (length-replicate (4 + 8 * c) 0); some = z .some; most = z .most }))
+    (zeros-started c (record { room = sym (length-replicate (tableWords c) 0); some = z .some; most = z .most }))

@@ -6,7 +6,8 @@ use native.Mathlib.Omega.{arith}
 use lib.ListN.{replicate}
 use Rattle.scope.specs.Numbers.{ruleOf, sideOf, linkOf, slotsOf}
 use Rattle.scope.specs.Table.{word, slotsIn, slotAt, withSlot, linkAt, written}
-use Rattle.scope.specs.Fit.{stateOk, piecesOk, linkOk, fitSlot, blankSlot, headerOk}
+use Rattle.scope.specs.Edits.{writes}
+use Rattle.scope.specs.Fit.{stateOk, piecesOk, linkOk, tailOk, fitSlot, blankSlot, headerOk}
 use Rattle.scope.specs.Tree.{size, inOrder, times, below, above, ordered}
 use Rattle.scope.specs.Sound.{treeOf, slotOk, slotsOk, soundTree, soundTable}
 use Rattle.scope.specs.Answers.{refusal, gate}
@@ -49,7 +50,7 @@ record Run : Type 0 where
   tidy-twice : word (tableOf (Tidy 2) three) 18 ≡ 1
 
 run : Run
-unfolding ruleOf sideOf linkOf slotsOf slotsIn slotAt withSlot linkAt written stateOk piecesOk linkOk fitSlot blankSlot headerOk size inOrder times below above ordered treeOf slotOk slotsOk soundTree soundTable gate stepOf walkFrom walkOf startOf foundIn findAnswer recordOk freeFrom freeSlot hangAt postingAt postPlan hung posted postOf amendingAt amendPlan amended amendOf leftmostFrom ifMay dropAt droppingAt dropPlan relinked dropped dropOf checkAnswer pick rankOf ranked rankAnswer totalOf totalAnswer negOf posOf NEG POS BAL RBAL worthOf worthAnswer guardAt highestAt actionAt takeOf judged aimW aimU aimV aim aimed firePlan fired fireOf holdsAt dueAt passes rulesFrom slotsFrom nextOf quiet linkFrom linkTo firedAt tidyFrom tidied tidyOf rulesFired answerOf tableOf answers after
+unfolding ruleOf sideOf linkOf slotsOf slotsIn slotAt withSlot linkAt written writes stateOk piecesOk linkOk tailOk fitSlot blankSlot headerOk size inOrder times below above ordered treeOf slotOk slotsOk soundTree soundTable gate stepOf walkFrom walkOf startOf foundIn findAnswer recordOk freeFrom freeSlot hangAt postingAt postPlan hung posted postOf amendingAt amendPlan amended amendOf leftmostFrom ifMay dropAt droppingAt dropPlan relinked dropped dropOf checkAnswer pick rankOf ranked rankAnswer totalOf totalAnswer negOf posOf NEG POS BAL RBAL worthOf worthAnswer guardAt highestAt actionAt takeOf judged aimW aimU aimV aim aimed firePlan fired fireOf holdsAt dueAt passes rulesFrom slotsFrom nextOf quiet linkFrom linkTo firedAt tidyFrom tidied tidyOf rulesFired answerOf tableOf answers after
 run = record { find-absent = refl; find-present = refl; post-writes = refl; fire-accepted = refl; fire-writes = refl; fire-before = refl; tidy-once = refl; tidy-twice = refl }
 
 -- a find with one fixed reply

@@ -3,6 +3,7 @@ use Prim.Native.Nat.{ℕ}
 use mathlib.Core.Path.{_≡_}
 use mathlib.Core.List.{List}
 use Rattle.scope.specs.Table.{written}
+use Rattle.scope.specs.Edits.{writes}
 use Rattle.scope.specs.Rules.{action, actionAt, highestAt}
 use Rattle.scope.specs.declared.rule.Kind.{Kind}
 use Rattle.scope.specs.declared.rule.Rule.{Rule}
@@ -18,6 +19,6 @@ module _ {t : List ℕ} {c : ℕ} {r : Rule} {n : Nodes} (s : Sized t c) (w : Wi
   asked = (record { sized = s; nodes = w .nodes }, rw e at (w .height))
 
   -- what it does
-  pub acted : {u : List ℕ} → Kept c (written t (action k (r .side) n)) u → Kept c (written t (actionAt r n)) u
+  pub acted : {u : List ℕ} → Kept c (written t (writes (action k (r .side) n))) u → Kept c (written t (actionAt r n)) u
   unfolding actionAt
   acted a = record { is = rw e (a .is); sized = a .sized }

@@ -5,16 +5,15 @@ use mathlib.Core.List.{List}
 use native.Mathlib.Omega.{arith}
 use borrow.Author.Tests.{ne-eqb}
 use lib.ListN.{length, set, length-set}
-use Rattle.scope.specs.Table.{linkAt}
-use Rattle.scope.specs.Rules.{sonAt}
+use Rattle.scope.specs.Table.{registerAt}
+use Rattle.scope.specs.Edits.{registerOn, placeOf}
 use Rattle.scope.specs.declared.side.Side.{Side}
 use Rattle.words.specs.Ready.{Sized}
 use Rattle.fire_act.specs.Wrote.{Kept}
 
--- the link of a slot stands among its words
-pub son-at : (k : ℕ) (s : Side) → 1 ≤ k → linkAt (record { holder = k; side = s }) ≡ sonAt k s
-unfolding linkAt
-son-at k s h = simp (ne-eqb k 0 (omega arith))
+-- a register of a slot stands among its words
+pub register-at : (k : ℕ) (s : Side) → 1 ≤ k → placeOf k (registerOn s) ≡ registerAt k s
+register-at k s h = simp (ne-eqb k 0 (omega arith))
 
 -- a table of another content and the same length
 pub same-size : {t u : List ℕ} {c : ℕ} → Sized t c → length u ≡ length t → Sized u c

@@ -1,8 +1,9 @@
 -- The actions in parts that are written by one function each: links, then registers. Assumes nothing: these are definitions.
 use mathlib.Core.List.{List, [], _∷_}
 use Rattle.scope.specs.Numbers.{other}
-use Rattle.scope.specs.Table.{son, linkAt, registerAt, Write, put}
-use Rattle.scope.specs.Rules.{seen, localHeight, turnedV, doubledU, doubledV, sonAt}
+use Rattle.scope.specs.Table.{son}
+use Rattle.scope.specs.Edits.{sonOn, registerOn, Edit, edit}
+use Rattle.scope.specs.Rules.{seen, localHeight, turnedV, doubledU, doubledV}
 use Rattle.scope.specs.declared.rule.Pair.{Pair}
 use Rattle.scope.specs.declared.side.Side.{Side}
 use Rattle.scope.specs.declared.outcome.Nodes.{Nodes}
@@ -17,27 +18,27 @@ module _ (s : Side) (n : Nodes) where
   abbrev w : Pair
   w = seen s (n .sw)
 
-  abbrev pub rotatedLinks : List Write
+  abbrev pub rotatedLinks : List Edit
   rotatedLinks =
-      put (linkAt (n .link)) (n .u) ∷ put (sonAt (n .u) (other s)) (n .v) ∷ put (sonAt (n .v) s) (son (n .su) (other s)) ∷ []
+      edit (n .link .holder) (sonOn (n .link .side)) (n .u) ∷ edit (n .u) (sonOn (other s)) (n .v) ∷ edit (n .v) (sonOn s) (son (n .su) (other s)) ∷ []
 
-  abbrev pub rotatedHeights : List Write
+  abbrev pub rotatedHeights : List Edit
   rotatedHeights =
-      put (registerAt (n .v) s) (u .far) ∷ put (registerAt (n .u) (other s)) (localHeight (turnedV v u)) ∷ []
+      edit (n .v) (registerOn s) (u .far) ∷ edit (n .u) (registerOn (other s)) (localHeight (turnedV v u)) ∷ []
 
-  abbrev pub twiceTop : List Write
+  abbrev pub twiceTop : List Edit
   twiceTop =
-      put (linkAt (n .link)) (n .w) ∷ put (sonAt (n .w) s) (n .u) ∷ put (sonAt (n .w) (other s)) (n .v) ∷ []
+      edit (n .link .holder) (sonOn (n .link .side)) (n .w) ∷ edit (n .w) (sonOn s) (n .u) ∷ edit (n .w) (sonOn (other s)) (n .v) ∷ []
 
-  abbrev pub twiceSons : List Write
+  abbrev pub twiceSons : List Edit
   twiceSons =
-      put (sonAt (n .u) (other s)) (son (n .sw) s) ∷ put (sonAt (n .v) s) (son (n .sw) (other s)) ∷ []
+      edit (n .u) (sonOn (other s)) (son (n .sw) s) ∷ edit (n .v) (sonOn s) (son (n .sw) (other s)) ∷ []
 
-  abbrev pub twiceCopied : List Write
-  twiceCopied = put (registerAt (n .u) (other s)) (w .near) ∷ put (registerAt (n .v) s) (w .far) ∷ []
+  abbrev pub twiceCopied : List Edit
+  twiceCopied = edit (n .u) (registerOn (other s)) (w .near) ∷ edit (n .v) (registerOn s) (w .far) ∷ []
 
-  abbrev pub twiceHeights : List Write
+  abbrev pub twiceHeights : List Edit
   twiceHeights =
-      put (registerAt (n .w) s) (localHeight (doubledU u w))
-      ∷ put (registerAt (n .w) (other s)) (localHeight (doubledV v w))
+      edit (n .w) (registerOn s) (localHeight (doubledU u w))
+      ∷ edit (n .w) (registerOn (other s)) (localHeight (doubledV v w))
       ∷ []

@@ -9,6 +9,7 @@ use scope::Nodes;
 use scope::Rule;
 use scope::Side;
 ghost use Rattle.scope.specs.Table.{written};
+ghost use Rattle.scope.specs.Edits.{writes};
 ghost use Rattle.scope.specs.Rules.{actionAt, propagated, rotated, rotatedTwice};
 ghost use Rattle.scope.specs.declared.rule.Kind.the-variants.{Propagate, Lean, Double};
 ghost use Rattle.fire_aim.specs.Aimed.{Within};
@@ -19,7 +20,7 @@ ghost use Rattle.words.specs.Ready.{Sized};
 // v's near register takes u's local height.
 pub fn propagate(t: &mut [u32], c: usize, n: Nodes, near: Side)
     requires { ⌜ InNodes (now t) c n × Low Propagate near n ⌝ }
-    ensures { λ _. ⌜ Kept c (written (now (t .entry)) (propagated near n)) (now (t .exit)) ⌝ }
+    ensures { λ _. ⌜ Kept c (written (now (t .entry)) (writes (propagated near n))) (now (t .exit)) ⌝ }
 {
     put_height(
         t,
@@ -33,7 +34,7 @@ pub fn propagate(t: &mut [u32], c: usize, n: Nodes, near: Side)
 // u takes v's link, v becomes u's far son, and u's old far son v's near one.
 pub fn rotate_links(t: &mut [u32], c: usize, n: Nodes, near: Side)
     requires { ⌜ InNodes (now t) c n ⌝ }
-    ensures { λ _. ⌜ Kept c (written (now (t .entry)) (rotatedLinks near n)) (now (t .exit)) ⌝ }
+    ensures { λ _. ⌜ Kept c (written (now (t .entry)) (writes (rotatedLinks near n))) (now (t .exit)) ⌝ }
 {
     let link = n.link;
     let far = near.other();
@@ -45,7 +46,7 @@ pub fn rotate_links(t: &mut [u32], c: usize, n: Nodes, near: Side)
 // v takes u's far register as its near one, and u v's new local height as its far one.
 pub fn rotate_heights(t: &mut [u32], c: usize, n: Nodes, near: Side)
     requires { ⌜ InNodes (now t) c n × Low Lean near n ⌝ }
-    ensures { λ _. ⌜ Kept c (written (now (t .entry)) (rotatedHeights near n)) (now (t .exit)) ⌝ }
+    ensures { λ _. ⌜ Kept c (written (now (t .entry)) (writes (rotatedHeights near n))) (now (t .exit)) ⌝ }
 {
     let far = near.other();
     let v = fire_guards::seen(n.sv, near);
@@ -56,7 +57,7 @@ pub fn rotate_heights(t: &mut [u32], c: usize, n: Nodes, near: Side)
 
 pub fn rotate(t: &mut [u32], c: usize, n: Nodes, near: Side)
     requires { ⌜ InNodes (now t) c n × Low Lean near n ⌝ }
-    ensures { λ _. ⌜ Kept c (written (now (t .entry)) (rotated near n)) (now (t .exit)) ⌝ }
+    ensures { λ _. ⌜ Kept c (written (now (t .entry)) (writes (rotated near n))) (now (t .exit)) ⌝ }
 {
     rotate_links(t, c, n, near);
     rotate_heights(t, c, n, near);
@@ -65,7 +66,7 @@ pub fn rotate(t: &mut [u32], c: usize, n: Nodes, near: Side)
 // w takes v's link, with u near and v far.
 pub fn twice_top(t: &mut [u32], c: usize, n: Nodes, near: Side)
     requires { ⌜ InNodes (now t) c n ⌝ }
-    ensures { λ _. ⌜ Kept c (written (now (t .entry)) (twiceTop near n)) (now (t .exit)) ⌝ }
+    ensures { λ _. ⌜ Kept c (written (now (t .entry)) (writes (twiceTop near n))) (now (t .exit)) ⌝ }
 {
     let link = n.link;
     put_top(t, c, link, n.w);
@@ -76,7 +77,7 @@ pub fn twice_top(t: &mut [u32], c: usize, n: Nodes, near: Side)
 // w's old sons go to u's far side and v's near side.
 pub fn twice_sons(t: &mut [u32], c: usize, n: Nodes, near: Side)
     requires { ⌜ InNodes (now t) c n ⌝ }
-    ensures { λ _. ⌜ Kept c (written (now (t .entry)) (twiceSons near n)) (now (t .exit)) ⌝ }
+    ensures { λ _. ⌜ Kept c (written (now (t .entry)) (writes (twiceSons near n))) (now (t .exit)) ⌝ }
 {
     let far = near.other();
     put_branch(t, c, n.u, far, words::son_word(n.sw, near));
@@ -86,7 +87,7 @@ pub fn twice_sons(t: &mut [u32], c: usize, n: Nodes, near: Side)
 // Their registers go with them.
 pub fn twice_copied(t: &mut [u32], c: usize, n: Nodes, near: Side)
     requires { ⌜ InNodes (now t) c n ⌝ }
-    ensures { λ _. ⌜ Kept c (written (now (t .entry)) (twiceCopied near n)) (now (t .exit)) ⌝ }
+    ensures { λ _. ⌜ Kept c (written (now (t .entry)) (writes (twiceCopied near n))) (now (t .exit)) ⌝ }
 {
     let w = fire_guards::seen(n.sw, near);
     put_register(t, c, n.u, near.other(), w.near);
@@ -96,7 +97,7 @@ pub fn twice_copied(t: &mut [u32], c: usize, n: Nodes, near: Side)
 // w's registers take the new local heights of u and v.
 pub fn twice_heights(t: &mut [u32], c: usize, n: Nodes, near: Side)
     requires { ⌜ InNodes (now t) c n × Low Double near n ⌝ }
-    ensures { λ _. ⌜ Kept c (written (now (t .entry)) (twiceHeights near n)) (now (t .exit)) ⌝ }
+    ensures { λ _. ⌜ Kept c (written (now (t .entry)) (writes (twiceHeights near n))) (now (t .exit)) ⌝ }
 {
     let v = fire_guards::seen(n.sv, near);
     let u = fire_guards::seen(n.su, near);
@@ -107,7 +108,7 @@ pub fn twice_heights(t: &mut [u32], c: usize, n: Nodes, near: Side)
 
 pub fn rotate_twice(t: &mut [u32], c: usize, n: Nodes, near: Side)
     requires { ⌜ InNodes (now t) c n × Low Double near n ⌝ }
-    ensures { λ _. ⌜ Kept c (written (now (t .entry)) (rotatedTwice near n)) (now (t .exit)) ⌝ }
+    ensures { λ _. ⌜ Kept c (written (now (t .entry)) (writes (rotatedTwice near n))) (now (t .exit)) ⌝ }
 {
     twice_top(t, c, n, near);
     twice_sons(t, c, n, near);

@@ -8,7 +8,7 @@ use lib.Dec.{leb, eqb}
 use lib.Bits.{bitOr, or-lt, or-add-and, and-le-l, and-le-r}
 use borrow.Author.Tests.{leb-true, le-leb, eqb-true, eq-eqb, ne-eqb}
 use Rattle.scope.specs.Numbers.{mostHeight}
-use Rattle.scope.specs.Fit.{stateOk, piecesOk, linkOk, fitSlot}
+use Rattle.scope.specs.Fit.{stateOk, piecesOk, linkOk, tailOk, fitSlot}
 use Rattle.scope.specs.declared.slot.Slot.{Slot}
 use Rattle.scope.proofs.Bools.{and-l, and-r, both}
 use Rattle.gate.specs.Parts.{burdenOf, besideOk, registersOk, recordOk, linksOk}
@@ -20,8 +20,8 @@ same false true f g = g refl
 same false false f g = refl
 
 -- the first and the last word of a slot
-pub ends-together : (s l : ℕ) → (eqb (s + 4 * l) 1 || eqb (s + 4 * l) 2) ≡ (stateOk s && eqb l 0)
-unfolding stateOk
+pub ends-together : (s l : ℕ) → (eqb (s + 4 * l) 1 || eqb (s + 4 * l) 2) ≡ (stateOk s && tailOk l)
+unfolding stateOk tailOk
 ends-together s l =
     elim (ℕ-discrete l 0) [
       | yes z ↦ let e : s + 4 * l ≡ s = omega arith in rw (e, eq-eqb l 0 z) (same _ _ (λ h. both h refl) (λ h. and-l _ _ h))
@@ -106,6 +106,6 @@ regroup e z k p l r h i j m =
 pub fit-together : (c : ℕ) (s : Slot) → (recordOk s && linksOk c s) ≡ fitSlot c s
 unfolding fitSlot linkOk
 fit-together c s =
-    regroup (stateOk (s .state)) (eqb (s .last) 0) (not (eqb (s .key) 0)) (piecesOk (s .pieces)) (leb (s .left) c)
+    regroup (stateOk (s .state)) (tailOk (s .last)) (not (eqb (s .key) 0)) (piecesOk (s .pieces)) (leb (s .left) c)
     (leb (s .right) c) (leb (s .lefth) mostHeight) (not (eqb (s .left) 0) || eqb (s .lefth) 0) (leb (s .righth) mostHeight)
     (not (eqb (s .right) 0) || eqb (s .righth) 0)

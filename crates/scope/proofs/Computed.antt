@@ -3,7 +3,8 @@ use mathlib.Core.Path.{_≡_, refl}
 use mathlib.Core.List.{List, map}
 use Rattle.scope.specs.Numbers.{ruleOf, sideOf, linkOf, slotsOf}
 use Rattle.scope.specs.Table.{slotsIn, slotAt, withSlot, linkAt, written}
-use Rattle.scope.specs.Fit.{stateOk, piecesOk, linkOk, fitSlot, blankSlot, headerOk}
+use Rattle.scope.specs.Edits.{writes}
+use Rattle.scope.specs.Fit.{stateOk, piecesOk, linkOk, tailOk, fitSlot, blankSlot, headerOk}
 use Rattle.scope.specs.Tree.{size, inOrder, times, below, above, ordered}
 use Rattle.scope.specs.Sound.{treeOf, slotOk, slotsOk, soundTree, soundTable}
 use Rattle.scope.specs.Answers.{gate}
@@ -38,7 +39,7 @@ pub record Computed : Type 0 where
   pub damage-holds : Holds damage
 
 pub computed : Computed
-unfolding ruleOf sideOf linkOf slotsOf slotsIn slotAt withSlot linkAt written stateOk piecesOk linkOk fitSlot blankSlot headerOk size inOrder times below above ordered treeOf slotOk slotsOk soundTree soundTable gate stepOf walkFrom walkOf startOf foundIn findAnswer recordOk freeFrom freeSlot hangAt postingAt postPlan hung posted postOf amendingAt amendPlan amended amendOf leftmostFrom ifMay dropAt droppingAt dropPlan relinked dropped dropOf checkAnswer pick rankOf ranked rankAnswer totalOf totalAnswer negOf posOf NEG POS BAL RBAL worthOf worthAnswer guardAt highestAt actionAt takeOf judged aimW aimU aimV aim aimed firePlan fired fireOf holdsAt dueAt passes rulesFrom slotsFrom nextOf quiet linkFrom linkTo firedAt tidyFrom tidied tidyOf rulesFired answerOf tableOf answers after
+unfolding ruleOf sideOf linkOf slotsOf slotsIn slotAt withSlot linkAt written writes stateOk piecesOk linkOk tailOk fitSlot blankSlot headerOk size inOrder times below above ordered treeOf slotOk slotsOk soundTree soundTable gate stepOf walkFrom walkOf startOf foundIn findAnswer recordOk freeFrom freeSlot hangAt postingAt postPlan hung posted postOf amendingAt amendPlan amended amendOf leftmostFrom ifMay dropAt droppingAt dropPlan relinked dropped dropOf checkAnswer pick rankOf ranked rankAnswer totalOf totalAnswer negOf posOf NEG POS BAL RBAL worthOf worthAnswer guardAt highestAt actionAt takeOf judged aimW aimU aimV aim aimed firePlan fired fireOf holdsAt dueAt passes rulesFrom slotsFrom nextOf quiet linkFrom linkTo firedAt tidyFrom tidied tidyOf rulesFired answerOf tableOf answers after
 computed =
     record {
       marked-holds = rows marked refl;

@@ -1,5 +1,5 @@
 -- Short words for the examples: a fresh table, calls, what of their answers is looked at, and a table of examples. Assumes nothing.
-use Prim.Native.Nat.{ℕ, _+_, _*_}
+use Prim.Native.Nat.{ℕ}
 use mathlib.Core.Path.{_≡_, refl}
 use mathlib.Core.Bool.{Bool, true, false, _&&_}
 use mathlib.Core.List.{List, [], _∷_, map}
@@ -9,12 +9,12 @@ use lib.Dec.{eqb}
 use borrow.Author.Tests.{eqb-true}
 use Rattle.scope.proofs.Bools.{and-l, and-r}
 use Rattle.scope.specs.Calls.{Call, Post, answers}
-use Rattle.scope.specs.Table.{base}
+use Rattle.scope.specs.Table.{slotWords, tableWords, base}
 use Rattle.scope.specs.declared.answer.Answer.{Answer}
 
 -- a started table of c slots
 abbrev pub fresh : ℕ → List ℕ
-fresh c = replicate (4 + 8 * c) 0
+fresh c = replicate (tableWords c) 0
 
 -- one piece poured at each of the stamps
 abbrev pub poured : List ℕ → List Call
@@ -40,7 +40,7 @@ abbrev pub header : List ℕ → List ℕ
 header t = take 4 t
 
 abbrev pub slot : ℕ → List ℕ → List ℕ
-slot k t = take 8 (drop (base k) t)
+slot k t = take slotWords (drop (base k) t)
 
 -- one line of a table of examples: what the definitions give, and what is to come out
 pub record Row : Type 0 where

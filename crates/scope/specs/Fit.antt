@@ -18,11 +18,15 @@ piecesOk p = not (eqb p 0) && leb p mostPieces
 unfoldable pub linkOk : ℕ → ℕ → ℕ → Bool
 linkOk c link height = leb link c && leb height mostHeight && (not (eqb link 0) || eqb height 0)
 
+-- what stands after the registers
+unfoldable pub tailOk : ℕ → Bool
+tailOk last = eqb last 0
+
 -- a slot that holds a record whose every field is in range
 unfoldable pub fitSlot : ℕ → Slot → Bool
 fitSlot c s =
     stateOk (s .state) && not (eqb (s .key) 0) && piecesOk (s .pieces)
-    && linkOk c (s .left) (s .lefth) && linkOk c (s .right) (s .righth) && eqb (s .last) 0
+    && linkOk c (s .left) (s .lefth) && linkOk c (s .right) (s .righth) && tailOk (s .last)
 
 -- eight zeros
 unfoldable pub blankSlot : Slot → Bool

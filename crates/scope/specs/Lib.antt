@@ -1,6 +1,7 @@
 -- Document 01 as definitions, one file a section: read them in this order.
 pub mod Numbers
 pub mod Table
+pub mod Edits
 pub mod Fit
 pub mod Tree
 pub mod Sound

@@ -4,7 +4,8 @@ use mathlib.Core.Bool.{Bool, not, _&&_}
 use mathlib.Core.List.{List, [], _∷_}
 use lib.Dec.{leb, ltb, eqb}
 use Rattle.scope.specs.Numbers.{other}
-use Rattle.scope.specs.Table.{base, linkPlace, son, register, linkAt, registerAt, Write, put}
+use Rattle.scope.specs.Table.{son, register, Write}
+use Rattle.scope.specs.Edits.{sonOn, registerOn, Edit, edit, writes}
 use Rattle.scope.specs.Tree.{over}
 use Rattle.scope.specs.declared.slot.Slot.{Slot}
 use Rattle.scope.specs.declared.side.Side.{Side}
@@ -59,10 +60,6 @@ highest Lean v u w = localHeight (turnedV v u)
 highest Even v u w = localHeight (turnedV v u)
 highest Double v u w = max (localHeight (doubledU u w)) (localHeight (doubledV v w))
 
--- where the link on a side of slot k stands
-abbrev pub sonAt : ℕ → Side → ℕ
-sonAt k s = base k + linkPlace s
-
 -- the words that an action writes, over v, u and w as they stood
 module _ (s : Side) (n : Nodes) where
   abbrev v : Pair
@@ -75,34 +72,34 @@ module _ (s : Side) (n : Nodes) where
   w = seen s (n .sw)
 
   -- v's near register takes u's local height
-  abbrev pub propagated : List Write
-  propagated = put (registerAt (n .v) s) (localHeight u) ∷ []
+  abbrev pub propagated : List Edit
+  propagated = edit (n .v) (registerOn s) (localHeight u) ∷ []
 
   -- u takes v's link, v becomes u's far son, and u's old far son v's near one
-  abbrev pub rotated : List Write
+  abbrev pub rotated : List Edit
   rotated =
-      put (linkAt (n .link)) (n .u)
-      ∷ put (sonAt (n .u) (other s)) (n .v)
-      ∷ put (sonAt (n .v) s) (son (n .su) (other s))
-      ∷ put (registerAt (n .v) s) (u .far)
-      ∷ put (registerAt (n .u) (other s)) (localHeight (turnedV v u))
+      edit (n .link .holder) (sonOn (n .link .side)) (n .u)
+      ∷ edit (n .u) (sonOn (other s)) (n .v)
+      ∷ edit (n .v) (sonOn s) (son (n .su) (other s))
+      ∷ edit (n .v) (registerOn s) (u .far)
+      ∷ edit (n .u) (registerOn (other s)) (localHeight (turnedV v u))
       ∷ []
 
   -- w takes v's link, with u near and v far; w's old sons go to u's far side and v's near side
-  abbrev pub rotatedTwice : List Write
+  abbrev pub rotatedTwice : List Edit
   rotatedTwice =
-      put (linkAt (n .link)) (n .w)
-      ∷ put (sonAt (n .w) s) (n .u)
-      ∷ put (sonAt (n .w) (other s)) (n .v)
-      ∷ put (sonAt (n .u) (other s)) (son (n .sw) s)
-      ∷ put (sonAt (n .v) s) (son (n .sw) (other s))
-      ∷ put (registerAt (n .u) (other s)) (w .near)
-      ∷ put (registerAt (n .v) s) (w .far)
-      ∷ put (registerAt (n .w) s) (localHeight (doubledU u w))
-      ∷ put (registerAt (n .w) (other s)) (localHeight (doubledV v w))
+      edit (n .link .holder) (sonOn (n .link .side)) (n .w)
+      ∷ edit (n .w) (sonOn s) (n .u)
+      ∷ edit (n .w) (sonOn (other s)) (n .v)
+      ∷ edit (n .u) (sonOn (other s)) (son (n .sw) s)
+      ∷ edit (n .v) (sonOn s) (son (n .sw) (other s))
+      ∷ edit (n .u) (registerOn (other s)) (w .near)
+      ∷ edit (n .v) (registerOn s) (w .far)
+      ∷ edit (n .w) (registerOn s) (localHeight (doubledU u w))
+      ∷ edit (n .w) (registerOn (other s)) (localHeight (doubledV v w))
       ∷ []
 
-abbrev pub action : Kind → Side → Nodes → List Write
+abbrev pub action : Kind → Side → Nodes → List Edit
 action Propagate s n = propagated s n
 action Lean s n = rotated s n
 action Even s n = rotated s n
@@ -116,4 +113,4 @@ unfoldable pub highestAt : Rule → Nodes → ℕ
 highestAt r n = highest (r .kind) (seen (r .side) (n .sv)) (seen (r .side) (n .su)) (seen (r .side) (n .sw))
 
 unfoldable pub actionAt : Rule → Nodes → List Write
-actionAt r n = action (r .kind) (r .side) n
+actionAt r n = writes (action (r .kind) (r .side) n)

@@ -29,13 +29,20 @@ changeWord = 2
 abbrev pub zeroWord : ℕ
 zeroWord = 3
 
+-- how many words a slot has, and a table of c slots
+abbrev pub slotWords : ℕ
+slotWords = 8
+
+abbrev pub tableWords : ℕ → ℕ
+tableWords c = 4 + slotWords * c
+
 -- a table of n words has c slots if n is 4 + 8c
 unfoldable pub slotsIn : ℕ → SlotsIs
-slotsIn n = cond (eqb (n % 8) 4) (slotsOf (n / 8)) Outside
+slotsIn n = cond (eqb (n % slotWords) 4) (slotsOf (n / slotWords)) Outside
 
 -- where the eight words of slot k begin; slots are counted from 1
 abbrev pub base : ℕ → ℕ
-base k = 4 + 8 * (k - 1)
+base k = tableWords (k - 1)
 
 -- which of them is the link, and which the register, on a side
 abbrev pub linkPlace : Side → ℕ
@@ -98,4 +105,4 @@ written t (w ∷ ws) = written (set t (w .place) (w .what)) ws
 -- slot k lies whole in the table
 pub record InTable (t : List ℕ) (k : ℕ) : Type 0 where
   pub first : 1 ≤ k
-  pub whole : 4 + 8 * k ≤ length t
+  pub whole : tableWords k ≤ length t

@@ -8,14 +8,14 @@ use native.Mathlib.Omega.{arith}
 use lib.ListN.{set}
 use lib.Seq.{getD-set-other}
 use borrow.Author.Tests.{ne-eqb}
-use Rattle.scope.specs.Table.{word, base, slotAt, withSlot, Write, put, written}
+use Rattle.scope.specs.Table.{slotWords, word, base, slotAt, withSlot, Write, put, written}
 use Rattle.scope.specs.Tree.{Tree, leaf, node, same, times}
 use Rattle.scope.specs.Sound.{Spells}
 use Rattle.scope.specs.declared.slot.Slot.{Slot}
 use Rattle.sound.proofs.Steps.{same-self}
 
 -- a slot is its eight words
-pub slot-words : (t t' : List ℕ) (k : ℕ) → ((f : ℕ) → f < 8 → word t' (base k + f) ≡ word t (base k + f))
+pub slot-words : (t t' : List ℕ) (k : ℕ) → ((f : ℕ) → f < slotWords → word t' (base k + f) ≡ word t (base k + f))
     → slotAt t' k ≡ slotAt t k
 unfolding slotAt
 slot-words t t' k e =
@@ -23,7 +23,7 @@ slot-words t t' k e =
     cc (z, e 1 (omega arith), e 2 (omega arith), e 3 (omega arith), e 4 (omega arith), e 5 (omega arith), e 6 (omega arith), e 7 (omega arith))
 
 -- a write of any other word leaves the slot
-pub slot-set : (t : List ℕ) (i w k : ℕ) → ((f : ℕ) → f < 8 → base k + f ≡ i → ⊥) → slotAt (set t i w) k ≡ slotAt t k
+pub slot-set : (t : List ℕ) (i w k : ℕ) → ((f : ℕ) → f < slotWords → base k + f ≡ i → ⊥) → slotAt (set t i w) k ≡ slotAt t k
 slot-set t i w k other = slot-words t (set t i w) k (λ f h. getD-set-other t i (base k + f) w 0 (other f h))
 
 module _ (t t' : List ℕ) (c : ℕ) where
@@ -46,7 +46,7 @@ module _ (t t' : List ℕ) (c : ℕ) where
       }
 
   pub frame-words : (x : ℕ) (T : Tree)
-      → ((k f : ℕ) → 1 ≤ times k T → f < 8 → word t' (base k + f) ≡ word t (base k + f)) → Spells t c x T
+      → ((k f : ℕ) → 1 ≤ times k T → f < slotWords → word t' (base k + f) ≡ word t (base k + f)) → Spells t c x T
       → Spells t' c x T
   frame-words x T h p = frame x T (λ k q. slot-words t t' k (λ f g. h k f q g)) p
 
@@ -60,13 +60,13 @@ none-at-0 t c x (node d a b l r) p =
 
 -- word i belongs to no slot of the tree
 abbrev pub Apart : Tree → ℕ → Type 0
-Apart T i = (k f : ℕ) → 1 ≤ k → 1 ≤ times k T → f < 8 → base k + f ≡ i → ⊥
+Apart T i = (k f : ℕ) → 1 ≤ k → 1 ≤ times k T → f < slotWords → base k + f ≡ i → ⊥
 
 -- so do the words of the header, and those of a slot that the tree does not have
 pub head-apart : (T : Tree) (i : ℕ) → i < 4 → Apart T i
 head-apart T i h k f p q g e = omega arith
 
-pub slot-apart : (T : Tree) (v n : ℕ) → 1 ≤ v → n < 8 → times v T ≡ 0 → (i : ℕ) → i ≡ base v + n → Apart T i
+pub slot-apart : (T : Tree) (v n : ℕ) → 1 ≤ v → n < slotWords → times v T ≡ 0 → (i : ℕ) → i ≡ base v + n → Apart T i
 slot-apart T v n p h z i e k f q u g w = let same-slot : k ≡ v = omega arith in omega (arith, ap (λ (y : ℕ). times y T) same-slot)
 
 unfoldable pub AllApart : Tree → List Write → Type 0
@@ -99,7 +99,7 @@ module _ (c x : ℕ) (T : Tree) where
       → Spells (withSlot t v s) c x T
   unfolding withSlot written AllApart
   frame-slot t p v s there z =
-      let at : (n : ℕ) → n < 8 → (i : ℕ) → i ≡ base v + n → Apart T i = λ n h. slot-apart T v n there h z in
+      let at : (n : ℕ) → n < slotWords → (i : ℕ) → i ≡ base v + n → Apart T i = λ n h. slot-apart T v n there h z in
       frame-written
       (put (base v) (s .state) ∷ put (base v + 1) (s .key) ∷ put (base v + 2) (s .pieces) ∷ put (base v + 3) (s .left)
       ∷ put (base v + 4) (s .right) ∷ put (base v + 5) (s .lefth) ∷ put (base v + 6) (s .righth) ∷ put (base v + 7) (s .last) ∷ [])

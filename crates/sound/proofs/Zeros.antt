@@ -6,7 +6,7 @@ use mathlib.Core.List.{List}
 use native.Mathlib.Omega.{arith}
 use lib.ListN.{length, replicate, getD-replicate}
 use borrow.Author.Tests.{le-leb}
-use Rattle.scope.specs.Table.{word, base, slotAt}
+use Rattle.scope.specs.Table.{tableWords, word, base, slotAt}
 use Rattle.scope.specs.Fit.{headerOk, blankSlot}
 use Rattle.scope.specs.Tree.{leaf, size, times, Ordered}
 use Rattle.scope.specs.Sound.{Spells, soundTable, Sound}
@@ -15,11 +15,11 @@ use Rattle.sound.proofs.Exact.{sound-test}
 
 -- the words of a table of c slots, all 0
 abbrev pub zeros : ℕ → List ℕ
-zeros c = replicate (4 + 8 * c) 0
+zeros c = replicate (tableWords c) 0
 
 module _ (c : ℕ) where
-  at : (i : ℕ) → i < 4 + 8 * c → word (zeros c) i ≡ 0
-  at i h = getD-replicate (4 + 8 * c) i 0 0 h
+  at : (i : ℕ) → i < tableWords c → word (zeros c) i ≡ 0
+  at i h = getD-replicate (tableWords c) i 0 0 h
 
   good-header : headerOk c (zeros c) ≡ true
   unfolding headerOk

@@ -2,7 +2,7 @@
 use Prim.Native.Nat.{ℕ, _+_, _*_, _/_}
 use mathlib.Core.Bool.{true}
 use mathlib.Core.List.{List, [], _∷_, _++_}
-use Rattle.scope.specs.Table.{word, rootWord, countWord, changeWord, slotAt}
+use Rattle.scope.specs.Table.{slotWords, word, rootWord, countWord, changeWord, slotAt}
 use Rattle.scope.specs.Sound.{treeIn}
 use Rattle.scope.specs.Answers.{accepted, refusal}
 use Rattle.scope.specs.Sums.{soundGate, slotsInOrder}
@@ -41,4 +41,4 @@ listText t = listing t (soundGate t true)
 
 -- the most bytes of it, for a table of n words
 abbrev pub listRoom : ℕ → ℕ
-listRoom n = answerRoom + recordRoom * (n / 8)
+listRoom n = answerRoom + recordRoom * (n / slotWords)

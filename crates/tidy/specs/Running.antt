@@ -14,7 +14,8 @@ use Rattle.marks.specs.Marks.{bitAt}
 use Rattle.sound.specs.Whole.{Whole}
 use Rattle.fire_aim.specs.Aimed.{Within}
 use Rattle.fire_act.specs.Wrote.{Kept}
-use Rattle.tidy_holders.specs.Holds.{Holds, Entries, Moving, editsOf, noted}
+use Rattle.tidy_holders.specs.Holds.{Holds, Entries, Moving, noted}
+use Rattle.scope.specs.Rules.{action}
 use Rattle.tidy.specs.Found.{Rested}
 use Rattle.tidy.specs.Roused.{Rousing, Roused}
 
@@ -36,7 +37,7 @@ pub record DueAt (t : List ℕ) (c : ℕ) (h m : List ℕ) (r : Rule) (x : Nodes
 
 pub record Acted (t h m : List ℕ) (c : ℕ) (r : Rule) (x : Nodes) (from : ℕ) (t′ h′ m′ : List ℕ) : Type 0 where
   pub words : Kept c (written t (actionAt r x)) t′
-  pub entries : Entries (noted (editsOf (r .kind) (r .side) x) h) h′
+  pub entries : Entries (noted (action (r .kind) (r .side) x) h) h′
   pub roused : Roused h m x from m′
 
 -- a test at slot k says the same on both tables

@@ -22,7 +22,8 @@ use Rattle.bridge.proofs.Calls.{LinkIn}
 use Rattle.bridge.proofs.Linked.{link-to}
 use Rattle.bridge.proofs.Meets.{due-meets, v-some}
 use Rattle.tidy_holders.specs.Codes.{linkOf, aboveOf}
-use Rattle.tidy_holders.specs.Holds.{Holds, Moving, editsOf, noted}
+use Rattle.tidy_holders.specs.Holds.{Holds, Moving, noted}
+use Rattle.scope.specs.Rules.{action}
 use Rattle.tidy_holders.specs.Away.{Elsewhere, Unnoted}
 use Rattle.tidy_holders.proofs.Links.{code-link, son-in, held-son, held-most}
 use Rattle.tidy_holders.proofs.Fired.{fired-holds, fired-whole}
@@ -86,7 +87,7 @@ module _ {t : List ℕ} {c : ℕ} (wh : Whole t c) (v n : ℕ) (first : 1 ≤ v)
         ap linkOf p ∙ code-link (link .holder) (link .side)
 
     -- EVERY SLOT IS NOTED WHERE IT HANGS AGAIN
-    pub holds-again : Holds (firedAt t c v n) c (noted (editsOf (r .kind) (r .side) nodes) h)
+    pub holds-again : Holds (firedAt t c v n) c (noted (action (r .kind) (r .side) nodes) h)
     holds-again =
         let j : AreSlots (nodesAt t r link (word t (linkAt link))) = rw (linked .1) node-slots in
         rw fired-is (rw (linked .1) at (fired-holds wh link (linked .0) o r j))

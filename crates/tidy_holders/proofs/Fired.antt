@@ -17,7 +17,8 @@ use Rattle.scope.specs.declared.outcome.Nodes.{Nodes}
 use Rattle.scope.specs.declared.outcome.Firing.the-variants.{Fire}
 use Rattle.sound.specs.Whole.{Whole}
 use Rattle.tree.specs.Rewrite.{ruleOn, acceptAt}
-use Rattle.bridge.specs.Edit.{writes, propagates}
+use Rattle.scope.specs.Edits.{writes}
+use Rattle.scope.specs.Rules.{propagated}
 use Rattle.bridge.specs.Alike.{Alike}
 use Rattle.bridge.specs.Fired.{Fired}
 use Rattle.bridge.proofs.Calls.{LinkIn}
@@ -25,7 +26,8 @@ use Rattle.bridge.proofs.Fires.{same-way}
 use Rattle.bridge.proofs.Held.{way-to}
 use Rattle.bridge.proofs.Linked.{link-to}
 use Rattle.bridge.proofs.Meets.{due-meets, v-some, due-fires}
-use Rattle.tidy_holders.specs.Holds.{Holds, editsOf, noted}
+use Rattle.tidy_holders.specs.Holds.{Holds, noted}
+use Rattle.scope.specs.Rules.{action}
 use Rattle.tidy_holders.proofs.Acts.{AreSlots, action-edits}
 use Rattle.tidy_holders.proofs.Swaps.{after, told}
 use Rattle.tidy_holders.proofs.Places.{heldPart, heldBy, notePart, noteBy}
@@ -36,17 +38,17 @@ module _ {t : List ℕ} {c : ℕ} (wh : Whole t c) (l : Link) (i : LinkIn c l) {
   at r = nodesAt t r l (word t (linkAt l))
 
   edited-holds : (k : Kind) (s : Side) → AreSlots (at (ruleOn k s))
-      → Holds (written t (writes (editsOf k s (at (ruleOn k s))))) c (noted (editsOf k s (at (ruleOn k s))) h)
-  unfolding editsOf heldBy heldPart noteBy notePart after told
+      → Holds (written t (writes (action k s (at (ruleOn k s))))) c (noted (action k s (at (ruleOn k s))) h)
+  unfolding heldBy heldPart noteBy notePart after told
   edited-holds Propagate s j =
-      by-moves (wh .sized) o (propagates s (at (ruleOn Propagate s))) []
+      by-moves (wh .sized) o (propagated s (at (ruleOn Propagate s))) []
       ((j .v, v-most wh l i s (j .v) (j .u)), tt) (tt, tt) tt (λ q n. tt) (λ q. refl) (λ k. refl)
   edited-holds Lean s j = turned-holds wh l i s (j .v) (j .u) o (at (ruleOn Lean s) .w) (at (ruleOn Lean s) .sw)
   edited-holds Even s j = turned-holds wh l i s (j .v) (j .u) o (at (ruleOn Even s) .w) (at (ruleOn Even s) .sw)
   edited-holds Double s j = twice-holds wh l i s (j .v) (j .u) o (j .w)
 
   pub fired-holds : (r : Rule) → AreSlots (at r)
-      → Holds (written t (actionAt r (at r))) c (noted (editsOf (r .kind) (r .side) (at r)) h)
+      → Holds (written t (actionAt r (at r))) c (noted (action (r .kind) (r .side) (at r)) h)
   fired-holds r j = rw (action-edits r (at r) j) (edited-holds (r .kind) (r .side) j)
 
 -- what comes out on the tree too leaves the table sound

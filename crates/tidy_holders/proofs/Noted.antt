@@ -11,10 +11,11 @@ use Rattle.scope.specs.declared.side.Side.the-variants.{Left, Right}
 use Rattle.scope.specs.declared.rule.Kind.{Kind}
 use Rattle.scope.specs.declared.rule.Kind.the-variants.{Propagate}
 use Rattle.scope.specs.declared.outcome.Nodes.{Nodes}
-use Rattle.bridge.specs.Edit.{rotates, rotatesTwice}
+use Rattle.scope.specs.Rules.{rotated, rotatedTwice}
 use Rattle.tidy_holders.specs.Codes.{linkFor, codeOf}
 use Rattle.tidy_holders.specs.Holds.{Entries, Noting, Sons, Moving}
-use Rattle.tidy_holders.specs.Holds.{noted, notedPart, topNoted, lowNoted, sonsNoted, editsOf}
+use Rattle.tidy_holders.specs.Holds.{noted, notedPart, topNoted, lowNoted, sonsNoted}
+use Rattle.scope.specs.Rules.{action}
 
 pub entered : {h : List ℕ} {k holder x y : ℕ} → Noting h k holder → x ≡ y → Entries (set h k y) (set h k x)
 entered {h} {k} {holder} {x} n e = record { is = rw e; room = length-set h k x ∙ n .room }
@@ -30,7 +31,7 @@ module _ {h : List ℕ} {n : Nodes} {near far : Side} (m : Moving h n near) (e :
   pub turned-noted : {h3 : List ℕ} {k : ℕ} → k ≡ son (n .su) far
       → Entries (set h (n .u) (codeOf (linkFor (n .link .holder) (n .link .side)))) h1
       → Entries (set h1 (n .v) (codeOf (linkFor (n .u) far))) h2
-      → Entries (set h2 k (codeOf (linkFor (n .v) near))) h3 → Entries (noted (rotates near n) h) h3
+      → Entries (set h2 k (codeOf (linkFor (n .v) near))) h3 → Entries (noted (rotated near n) h) h3
   unfolding noted notedPart
   turned-noted q a b d = record { is = d .is ∙ rw (b .is, a .is, q, e) refl; room = d .room }
 
@@ -49,7 +50,7 @@ module _ {h : List ℕ} {n : Nodes} {near far : Side} (m : Moving h n near) (e :
 module _ {h : List ℕ} {n : Nodes} {near : Side} (m : Moving h n near) where
   -- a double rotation, its upper part and then its lower
   pub twice-noted : {h1 h2 : List ℕ} → Entries (topNoted near n h) h1 → Entries (lowNoted near n h1) h2
-      → Entries (noted (rotatesTwice near n) h) h2
+      → Entries (noted (rotatedTwice near n) h) h2
   unfolding noted notedPart topNoted lowNoted
   twice-noted a b = record { is = b .is ∙ rw (a .is) refl; room = b .room }
 
@@ -67,6 +68,6 @@ module _ {h : List ℕ} {n : Nodes} {near : Side} (m : Moving h n near) where
   }
 
   -- a propagation moves nothing
-  pub none-noted : {k : Kind} → k ≡ Propagate → Entries (noted (editsOf k near n) h) h
-  unfolding noted notedPart editsOf
+  pub none-noted : {k : Kind} → k ≡ Propagate → Entries (noted (action k near n) h) h
+  unfolding noted notedPart
   none-noted e = record { is = rw e refl; room = m .room }

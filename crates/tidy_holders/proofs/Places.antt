@@ -9,13 +9,13 @@ use lib.ListN.{length, getD, set, length-set}
 use lib.Seq.{getD-set-same, getD-set-other}
 use lib.Dec.{eqb}
 use borrow.Author.Tests.{eq-eqb, ne-eqb}
-use Rattle.scope.specs.Table.{base, linkAt, registerPlace, written}
+use Rattle.scope.specs.Table.{slotWords, base, linkAt, registerPlace, written}
 use Rattle.scope.specs.declared.side.Side.{Side}
 use Rattle.scope.specs.declared.side.Side.the-variants.{Left, Right}
 use Rattle.scope.specs.declared.side.Link.{Link}
 use Rattle.words.specs.Ready.{Sized}
 use Rattle.words.proofs.Laws.{link-lt}
-use Rattle.bridge.specs.Edit.{Part, sonOn, registerOn, Edit, placeOf, writes}
+use Rattle.scope.specs.Edits.{Part, sonOn, registerOn, Edit, placeOf, writes}
 use Rattle.bridge.proofs.Calls.{LinkIn}
 use Rattle.bridge.specs.Leads.{sideNumber}
 use Rattle.tidy_holders.specs.Codes.{linkFor, codeOf, linkOf, heldAt}
@@ -23,7 +23,7 @@ use Rattle.tidy_holders.specs.Holds.{CodeIn, notedPart, noted}
 use Rattle.tidy_holders.proofs.Links.{side-most, link-code, link-in, held-link}
 
 -- where a link stands, said without a difference
-place : (k : ℕ) (s : Side) → 1 ≤ k → linkAt (linkFor k s) + 1 ≡ 8 * k + sideNumber s
+place : (k : ℕ) (s : Side) → 1 ≤ k → linkAt (linkFor k s) + slotWords ≡ slotWords * k + (7 + sideNumber s)
 unfolding linkAt
 place k Left i = rw (ne-eqb k 0 (λ e. omega arith)) (omega arith)
 place k Right i = rw (ne-eqb k 0 (λ e. omega arith)) (omega arith)

@@ -13,7 +13,8 @@ use Rattle.scope.specs.declared.slot.Slot.{Slot}
 use Rattle.scope.specs.declared.outcome.Nodes.{Nodes}
 use Rattle.sound.specs.Whole.{Whole}
 use Rattle.words.specs.Ready.{Sized}
-use Rattle.bridge.specs.Edit.{Edit, writes, rotates, rotatesTwice}
+use Rattle.scope.specs.Edits.{Edit, writes}
+use Rattle.scope.specs.Rules.{rotated, rotatedTwice}
 use Rattle.bridge.proofs.Calls.{LinkIn}
 use Rattle.tidy_holders.specs.Codes.{linkFor, codeOf, heldAt}
 use Rattle.tidy_holders.specs.Holds.{CodeIn, Holds, noted}
@@ -118,10 +119,10 @@ module _ {t : List ℕ} {c : ℕ} (wh : Whole t c) (l : Link) (i : LinkIn c l) (
 
     module _ {h : List ℕ} (o : Holds t c h) where
       pub turned-holds : (w : ℕ) (sw : Slot)
-          → Holds (written t (writes (rotates s (pairAt w sw)))) c (noted (rotates s (pairAt w sw)) h)
+          → Holds (written t (writes (rotated s (pairAt w sw)))) c (noted (rotated s (pairAt w sw)) h)
       unfolding heldBy heldPart noteBy notePart after told
       turned-holds w sw =
-          by-moves (wh .sized) o (rotates s (pairAt w sw)) (takes b a ∷ takes a g ∷ takes g b ∷ [])
+          by-moves (wh .sized) o (rotated s (pairAt w sw)) (takes b a ∷ takes a g ∷ takes g b ∷ [])
           (i, (in-u, (in-v, (at-v, (at-u, tt)))))
           (small u-most, (small v-most, (rw (← held-son t u (other s) ui) (most a a-in), (tt, (tt, tt)))))
           (a-in, ((λ e. g-a (sym e)), (a-b, tt)), (code-in l i, (g-b, tt), (b-in, tt, tt)))
@@ -186,17 +187,17 @@ module _ {t : List ℕ} {c : ℕ} (wh : Whole t c) (l : Link) (i : LinkIn c l) (
         at-w : (1 ≤ m) × (m ≤ c)
         at-w = (wi, w-most)
 
-        noted-all : EachNoted (rotatesTwice s (pairAt m (slotAt t m)))
+        noted-all : EachNoted (rotatedTwice s (pairAt m (slotAt t m)))
         noted-all = (small w-most, (small u-most, (small v-most, (low s, (low (other s), (tt, (tt, (tt, (tt, tt)))))))))
 
-        proper : AllProper c (rotatesTwice s (pairAt m (slotAt t m)))
+        proper : AllProper c (rotatedTwice s (pairAt m (slotAt t m)))
         proper = (i, (in-w s, (in-w (other s), (in-u, (in-v, (at-u, (at-v, (at-w, (at-w, tt)))))))))
 
-        pub twice-holds : Holds (written t (writes (rotatesTwice s (pairAt m (slotAt t m))))) c
-            (noted (rotatesTwice s (pairAt m (slotAt t m))) h)
+        pub twice-holds : Holds (written t (writes (rotatedTwice s (pairAt m (slotAt t m))))) c
+            (noted (rotatedTwice s (pairAt m (slotAt t m))) h)
         unfolding heldBy heldPart noteBy notePart after told
         twice-holds =
-            by-moves (wh .sized) o (rotatesTwice s (pairAt m (slotAt t m))) moves proper
+            by-moves (wh .sized) o (rotatedTwice s (pairAt m (slotAt t m))) moves proper
             noted-all once
             (λ q n. (n .1 .1 .0, (n .1 .1 .1 .0, (n .1 .1 .1 .1 .0, (n .0, (n .1 .0, tt))))))
             (λ q. rw (wf-son, wn-son, held-link t l, held-son t v s vi, held-son t u (other s) ui) refl)

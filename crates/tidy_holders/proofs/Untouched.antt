@@ -15,10 +15,11 @@ use Rattle.scope.specs.declared.rule.Kind.the-variants.{Propagate, Lean, Even, 
 use Rattle.scope.specs.declared.rule.Rule.{Rule}
 use Rattle.scope.specs.declared.outcome.Nodes.{Nodes}
 use Rattle.words.specs.Ready.{Sized}
-use Rattle.bridge.specs.Edit.{Part, sonOn, registerOn, Edit, shape, withPart, edited}
+use Rattle.scope.specs.Edits.{Part, sonOn, registerOn, Edit}
+use Rattle.bridge.specs.Edit.{shape, withPart, edited}
 use Rattle.bridge.proofs.Edited.{Inside, Rewritten, rewritten}
 use Rattle.bridge.proofs.Outside.{Away, edited-away}
-use Rattle.tidy_holders.specs.Holds.{editsOf}
+use Rattle.scope.specs.Rules.{action}
 use Rattle.tidy_holders.specs.Away.{NoNode}
 use Rattle.tidy_holders.proofs.Acts.{AreSlots, action-edits}
 
@@ -55,15 +56,13 @@ calm o k (e ∷ es) y a = calm o k es _ (a .1) ∙ calm-part o (e .part) k (e .s
 -- a slot that is none of the nodes
 module _ (s : Side) (n : Nodes) (x : ℕ) (a : NoNode n x) where
   -- its registers stay, and all of it if it does not hold the link either
-  pub calm-there : (k : Kind) → Calm x (editsOf k s n)
-  unfolding editsOf
+  pub calm-there : (k : Kind) → Calm x (action k s n)
   calm-there Propagate = (a .v, tt)
   calm-there Lean = (tt, (tt, (tt, (a .v, (a .u, tt)))))
   calm-there Even = (tt, (tt, (tt, (a .v, (a .u, tt)))))
   calm-there Double = (tt, (tt, (tt, (tt, (tt, (a .u, (a .v, (a .w, (a .w, tt)))))))))
 
-  pub away-there : (x ≡ n .link .holder → ⊥) → (k : Kind) → Away x (editsOf k s n)
-  unfolding editsOf
+  pub away-there : (x ≡ n .link .holder → ⊥) → (k : Kind) → Away x (action k s n)
   away-there g Propagate = (a .v, tt)
   away-there g Lean = (g, (a .u, (a .v, (a .v, (a .u, tt)))))
   away-there g Even = (g, (a .u, (a .v, (a .v, (a .u, tt)))))
@@ -76,8 +75,7 @@ pub record Lies (c : ℕ) (n : Nodes) : Type 0 where
   pub u : n .u ≤ c
   pub w : n .w ≤ c
 
-pub inside-there : (c : ℕ) (s : Side) (n : Nodes) → Lies c n → (k : Kind) → Inside c (editsOf k s n)
-unfolding editsOf
+pub inside-there : (c : ℕ) (s : Side) (n : Nodes) → Lies c n → (k : Kind) → Inside c (action k s n)
 inside-there c s n a Propagate = (a .v, tt)
 inside-there c s n a Lean = (a .holder, (a .u, (a .v, (a .v, (a .u, tt)))))
 inside-there c s n a Even = (a .holder, (a .u, (a .v, (a .v, (a .u, tt)))))
@@ -88,7 +86,7 @@ module _ {t : List ℕ} {c : ℕ} (z : Sized t c) (r : Rule) (n : Nodes) (a : Ar
   fired = written t (actionAt r n)
 
   abbrev edits : List Edit
-  edits = editsOf (r .kind) (r .side) n
+  edits = action (r .kind) (r .side) n
 
   after : Rewritten t fired c edits
   after = rw (action-edits r n a) (rewritten z edits (inside-there c (r .side) n l (r .kind)))

@@ -7,10 +7,8 @@ use Rattle.scope.specs.Numbers.{other}
 use Rattle.scope.specs.Table.{slotAt, son, InTable}
 use Rattle.scope.specs.declared.side.Side.{Side}
 use Rattle.scope.specs.declared.side.Side.the-variants.{Left, Right}
-use Rattle.scope.specs.declared.rule.Kind.{Kind}
-use Rattle.scope.specs.declared.rule.Kind.the-variants.{Propagate, Lean, Even, Double}
 use Rattle.scope.specs.declared.outcome.Nodes.{Nodes}
-use Rattle.bridge.specs.Edit.{Part, sonOn, registerOn, Edit, propagates, rotates, rotatesTwice}
+use Rattle.scope.specs.Edits.{Part, sonOn, registerOn, Edit}
 use Rattle.tidy_holders.specs.Codes.{linkFor, codeOf, heldAt}
 
 -- the number of a link of a table of c slots; slot 0 holds one link only
@@ -54,13 +52,6 @@ notedPart (registerOn s) k x h = h
 unfoldable pub noted : List Edit → List ℕ → List ℕ
 noted [] h = h
 noted (e ∷ es) h = noted es (notedPart (e .part) (e .slot) (e .what) h)
-
--- the edits of a rule
-unfoldable pub editsOf : Kind → Side → Nodes → List Edit
-editsOf Propagate s n = propagates s n
-editsOf Lean s n = rotates s n
-editsOf Even s n = rotates s n
-editsOf Double s n = rotatesTwice s n
 
 -- what a firing at these nodes asks: every slot that it moves or hangs something at has a number
 pub record Moving (h : List ℕ) (n : Nodes) (near : Side) : Type 0 where

@@ -4,13 +4,14 @@ use scope::Kind;
 use scope::Nodes;
 use scope::Rule;
 use scope::Side;
-ghost use Rattle.bridge.specs.Edit.{rotates, rotatesTwice};
-ghost use Rattle.tidy_holders.specs.Holds.{Entries, Moving, noted, topNoted, lowNoted, editsOf};
+ghost use Rattle.scope.specs.Rules.{rotated, rotatedTwice};
+ghost use Rattle.tidy_holders.specs.Holds.{Entries, Moving, noted, topNoted, lowNoted};
+ghost use Rattle.scope.specs.Rules.{action};
 
 // u takes v's link, v hangs at u's far side, and u's old far son at v's near one.
 pub fn turned(h: &mut [u32; 4096], n: Nodes, near: Side)
     requires { ⌜ Moving (now h) n near ⌝ }
-    ensures { λ _. ⌜ Entries (noted (rotates near n) (now (h .entry))) (now (h .exit)) ⌝ }
+    ensures { λ _. ⌜ Entries (noted (rotated near n) (now (h .entry))) (now (h .exit)) ⌝ }
 {
     let link = n.link;
     let side = link.side;
@@ -44,7 +45,7 @@ pub fn twice_sons(h: &mut [u32; 4096], n: Nodes, near: Side)
 
 pub fn turned_twice(h: &mut [u32; 4096], n: Nodes, near: Side)
     requires { ⌜ Moving (now h) n near ⌝ }
-    ensures { λ _. ⌜ Entries (noted (rotatesTwice near n) (now (h .entry))) (now (h .exit)) ⌝ }
+    ensures { λ _. ⌜ Entries (noted (rotatedTwice near n) (now (h .entry))) (now (h .exit)) ⌝ }
 {
     twice_top(h, n, near);
     twice_sons(h, n, near);
@@ -53,7 +54,7 @@ pub fn turned_twice(h: &mut [u32; 4096], n: Nodes, near: Side)
 // The entries after a rule has fired at its nodes.
 pub fn moved(h: &mut [u32; 4096], r: Rule, n: Nodes)
     requires { ⌜ Moving (now h) n (r .side) ⌝ }
-    ensures { λ _. ⌜ Entries (noted (editsOf (r .kind) (r .side) n) (now (h .entry))) (now (h .exit)) ⌝ }
+    ensures { λ _. ⌜ Entries (noted (action (r .kind) (r .side) n) (now (h .entry))) (now (h .exit)) ⌝ }
 {
     let kind = r.kind;
     let near = r.side;

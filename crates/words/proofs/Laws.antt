@@ -9,8 +9,8 @@ use lib.ListN.{length}
 use lib.Dec.{eqb, leb}
 use Rattle.scope.proofs.Bools.{and-l, and-r, by-bool}
 use Rattle.scope.specs.Numbers.{slotsOf}
-use Rattle.scope.specs.Table.{word, rootWord, countWord, slotsIn, base, slotAt, son, linkAt, linkPlace, registerAt, registerPlace, InTable}
-use Rattle.scope.specs.Fit.{stateOk, piecesOk, linkOk, fitSlot, headerOk}
+use Rattle.scope.specs.Table.{slotWords, word, rootWord, countWord, slotsIn, base, slotAt, son, linkAt, linkPlace, registerAt, registerPlace, InTable}
+use Rattle.scope.specs.Fit.{stateOk, piecesOk, linkOk, tailOk, fitSlot, headerOk}
 use Rattle.scope.specs.Answers.{gate, onSlots, admit}
 use Rattle.scope.specs.declared.slot.Slot.{Slot}
 use Rattle.scope.specs.declared.slots.Slots.{Slots}
@@ -38,10 +38,10 @@ slots-in-range n s e =
 pub slots-room : (t : List ℕ) (s : Slots) → slotsIn (length t) ≡ Within s → Sized t (s .count)
 unfolding slotsIn
 slots-room t s e =
-    by-bool (eqb (length t % 8) 4)
+    by-bool (eqb (length t % slotWords) 4)
     (λ p. let z = simp p at e in
-    let k = slots-in-range (length t / 8) s z in
-    record { room = omega (arith, eqb-true (length t % 8) 4 p); some = omega arith; most = omega arith })
+    let k = slots-in-range (length t / slotWords) s z in
+    record { room = omega (arith, eqb-true (length t % slotWords) 4 p); some = omega arith; most = omega arith })
     (λ p. let z = simp p at e in let y : _≡_ {A = ℕ} 0 1 = cc in absurd (omega arith))
 
 -- what a good header tells
@@ -102,7 +102,7 @@ pub fits : (c : ℕ) (s : Slot) → fitSlot c s ≡ true → Fits c s
 unfolding fitSlot
 fits c s e =
     let p = six (stateOk (s .state)) (not (eqb (s .key) 0)) (piecesOk (s .pieces))
-    (linkOk c (s .left) (s .lefth)) (linkOk c (s .right) (s .righth)) (eqb (s .last) 0) e in
+    (linkOk c (s .left) (s .lefth)) (linkOk c (s .right) (s .righth)) (tailOk (s .last)) e in
     record { state = p .0; left = p .1; right = p .2 }
 
 link-le : (c l h : ℕ) → linkOk c l h ≡ true → (l ≤ c) × (h ≤ 65535)

@@ -5,7 +5,7 @@ use mathlib.Core.List.{List}
 use native.Mathlib.Omega.{arith}
 use borrow.Author.Tests.{eq-eqb, ne-eqb}
 use lib.ListN.{length}
-use Rattle.scope.specs.Table.{word, slotAt}
+use Rattle.scope.specs.Table.{slotWords, word, slotAt}
 use Rattle.scope.specs.Post.{freeFrom, freeSlot}
 use Rattle.words.specs.Ready.{Sized, Free}
 
@@ -51,24 +51,24 @@ module _ {t : List ℕ} {c k : ℕ} (so-far : Seeking t c k) where
 
 -- the search at place b, which is the first word of a slot
 pub record AtPlace (t : List ℕ) (c b : ℕ) : Type 0 where
-  pub seeking : Seeking t c (b / 8 + 1)
-  pub place : b % 8 ≡ 4
+  pub seeking : Seeking t c (b / slotWords + 1)
+  pub place : b % slotWords ≡ 4
 
 pub place-start : (t : List ℕ) (c : ℕ) → AtPlace t c 4
 place-start t c = record { seeking = seek-start t c; place = refl }
 
 module _ {t : List ℕ} {c b : ℕ} (z : Sized t c) (a : AtPlace t c b) where
-  state-there : slotAt t (b / 8 + 1) .state ≡ word t b
+  state-there : slotAt t (b / slotWords + 1) .state ≡ word t b
   unfolding slotAt
   state-there = ap (word t) (omega (arith, a .place))
 
-  pub place-here : b < length t → word t b ≡ 0 → Free t c (b / 8 + 1)
+  pub place-here : b < length t → word t b ≡ 0 → Free t c (b / slotWords + 1)
   place-here h e = seek-here (a .seeking) (omega (arith, a .place, z .room)) (state-there ∙ e)
 
-  pub place-on : b < length t → (word t b ≡ 0 → ⊥) → AtPlace t c (b + 8)
+  pub place-on : b < length t → (word t b ≡ 0 → ⊥) → AtPlace t c (b + slotWords)
   place-on h ne =
       let on = seek-on (a .seeking) (omega (arith, a .place, z .room)) (λ e. ne (sym state-there ∙ e)) in
-      let same : b / 8 + 1 + 1 ≡ (b + 8) / 8 + 1 = omega arith in
+      let same : b / slotWords + 1 + 1 ≡ (b + slotWords) / slotWords + 1 = omega arith in
       record { seeking = rw same at on; place = omega (arith, a .place) }
 
   pub place-end : length t ≤ b → Free t c 0

@@ -1,9 +1,9 @@
 -- What the functions of `words` ask of a table, and what an open gate tells. Assumes nothing: these are statements.
-use Prim.Native.Nat.{ℕ, _+_, _*_, _≤_}
+use Prim.Native.Nat.{ℕ, _≤_}
 use mathlib.Core.Path.{_≡_}
 use mathlib.Core.List.{List}
 use lib.ListN.{length}
-use Rattle.scope.specs.Table.{word, rootWord, countWord}
+use Rattle.scope.specs.Table.{tableWords, word, rootWord, countWord}
 use Rattle.scope.specs.Post.{freeSlot}
 
 -- the four words of the header are there
@@ -12,7 +12,7 @@ Headed t = 4 ≤ length t
 
 -- a table of c slots
 pub record Sized (t : List ℕ) (c : ℕ) : Type 0 where
-  pub room : 4 + 8 * c ≡ length t
+  pub room : tableWords c ≡ length t
   pub some : 1 ≤ c
   pub most : c ≤ 4095
 

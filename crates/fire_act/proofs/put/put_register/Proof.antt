@@ -1,6 +1,8 @@
 -- `fire_act::put::put_register` meets its contract. Assumes nothing.
 use native.Mathlib.Omega.{arith}
+use denote.Ref.{now}
 use borrow.Author.Needs.{needs}
+use Rattle.fire_act.proofs.Writes.{register-at, kept-set}
 use Rattle.words.proofs.Laws.{register-lt}
 use Rattle.fire_act.proofs.put.put_register.Statement.{statement}
 use Rattle.fire_act.proofs.put.put_register.Tie as tie
@@ -12,7 +14,10 @@ same-length : tie.Need-same-length
 same-length c = search needs
 
 returns : tie.Need-returns
-returns c = search needs
+returns c = let a = c .before .before .before .before .before .args in
+    let p = c .before .before .before .before .before .pre in
+    rw (register-at (a .k) (a .side) (p .first))
+    (kept-set (now (a .t)) (a .c) _ (a .height) (p .sized) (c .before .before .put-register .ensures))
 
 pub put-register-spec : {M : Type 1} → statement M
 put-register-spec = tie.close (tie.spec put-register-requires same-length returns)

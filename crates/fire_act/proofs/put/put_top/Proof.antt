@@ -1,6 +1,9 @@
 -- `fire_act::put::put_top` meets its contract. Assumes nothing.
 use native.Mathlib.Omega.{arith}
+use denote.Ref.{now}
 use borrow.Author.Needs.{needs}
+use Rattle.scope.specs.Table.{linkAt}
+use Rattle.fire_act.proofs.Writes.{kept-set}
 use Rattle.words.proofs.Laws.{link-lt}
 use Rattle.fire_act.proofs.put.put_top.Statement.{statement}
 use Rattle.fire_act.proofs.put.put_top.Tie as tie
@@ -12,7 +15,10 @@ same-length : tie.Need-same-length
 same-length c = search needs
 
 returns : tie.Need-returns
-returns c = search needs
+unfolding linkAt
+returns c = let a = c .before .before .before .before .before .args in
+    let p = c .before .before .before .before .before .pre in
+    kept-set (now (a .t)) (a .c) _ (a .k) (p .0) (c .before .before .put-link .ensures)
 
 pub put-top-spec : {M : Type 1} → statement M
 put-top-spec = tie.close (tie.spec put-link-requires same-length returns)

@@ -1,5 +1,5 @@
 -- `tidy_holders::moves::moved` meets its contract. Assumes nothing.
-use Rattle.tidy_holders.specs.Holds.{editsOf}
+use Rattle.scope.specs.Rules.{action}
 use Rattle.tidy_holders.proofs.Noted.{none-noted}
 use borrow.Author.Needs.{needs}
 use Rattle.tidy_holders.proofs.moves.moved.Statement.{statement}
@@ -30,15 +30,12 @@ returns : tie.Need-returns
 returns c = none-noted (c .before .before .pre) (c .enum-told .given .1)
 
 returns-2 : tie.Need-returns-2
-unfolding editsOf
 returns-2 c = rw (c .before .before .enum-told2 .given .1) (c .turned .ensures)
 
 returns-3 : tie.Need-returns-3
-unfolding editsOf
 returns-3 c = rw (c .before .before .enum-told3 .given .1) (c .turned2 .ensures)
 
 returns-4 : tie.Need-returns-4
-unfolding editsOf
 returns-4 c = rw (c .before .before .enum-told4 .given .1) (c .turned-twice .ensures)
 
 pub moved-spec : {M : Type 1} → statement M
