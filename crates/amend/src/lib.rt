@@ -10,7 +10,7 @@ use settling::next_change;
 ghost use mathlib.Core.Path.{_≡_};
 ghost use Rattle.scope.specs.Amend.{amendingAt, amendPlan, amended, amendAnswer, amendTable};
 ghost use Rattle.scope.specs.declared.outcome.Amending.the-variants.{Change};
-ghost use Rattle.words.specs.Ready.{Ready};
+ghost use Rattle.spelling.specs.Ready.{Ready};
 ghost use Rattle.walk.specs.Walked.{Inside};
 ghost use Rattle.settling.specs.Ends.{Does};
 ghost use Rattle.settling.specs.Planned.{Changeable, AmendPlanned};

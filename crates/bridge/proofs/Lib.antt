@@ -1,39 +1,5 @@
 -- The laws of words and trees, from the ground up.
--- writes, slot by slot
-pub mod Edited
-pub mod Wrote
-pub mod Looks
-pub mod Outside
--- changes below a link and at a key
-pub mod Keyed
-pub mod Above
-pub mod Along
--- firings at a link, along a way, and on a sound table
-pub mod Turns
-pub mod Twice
-pub mod Aims
-pub mod Ways
-pub mod Fires
-pub mod Calls
-pub mod Held
-pub mod Linked
-pub mod Dues
-pub mod Meets
--- the search walk, and rest
-pub mod Seeks
-pub mod Quiets
-pub mod Searches
-pub mod Rests
--- records amended and posted
-pub mod Grown
-pub mod Free
-pub mod Amends
-pub mod Settles
-pub mod Posts
--- records dropped
-pub mod Lowest
-pub mod Relinks
-pub mod Follows
-pub mod Swaps
-pub mod Drops
-pub mod Dropped
+pub mod Links
+pub mod Firing
+pub mod Resting
+pub mod Records

@@ -9,7 +9,7 @@ use Rattle.scope.specs.Tree.{Tree, times}
 use Rattle.scope.specs.Sound.{Spells}
 use Rattle.scope.specs.declared.side.Link.{Link}
 use Rattle.scope.specs.declared.slot.Slot.{Slot}
-use Rattle.words.specs.Ready.{Sized}
+use Rattle.spelling.specs.Ready.{Sized}
 use Rattle.scope.specs.Edits.{sonOn, registerOn}
 use Rattle.bridge.specs.Edit.{withPart}
 

@@ -15,7 +15,7 @@ use Rattle.scope.specs.declared.answer.Refusal.{Refusal}
 use Rattle.scope.specs.declared.answer.Refusal.the-variants.{OutOfRange, GuardFails}
 use Rattle.scope.specs.declared.outcome.Firing.{Firing}
 use Rattle.scope.specs.declared.outcome.Firing.the-variants.{Refuse}
-use Rattle.sound.specs.Whole.{Whole}
+use Rattle.spelling.specs.Whole.{Whole}
 use Rattle.tree.specs.Rewrite.{acceptAt}
 use Rattle.bridge.specs.Leads.{Leads}
 use Rattle.bridge.specs.Alike.{Unmet, Alike}

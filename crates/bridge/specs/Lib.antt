@@ -4,8 +4,6 @@ pub mod Below
 pub mod Alike
 pub mod Leads
 pub mod Fired
-pub mod Seek
-pub mod Without
 pub mod Planned
 pub mod Settled
 pub mod Due

@@ -10,7 +10,7 @@ use Rattle.scope.specs.declared.side.Link.{Link}
 use Rattle.scope.specs.declared.outcome.Dropping.{Dropping}
 use Rattle.scope.specs.declared.outcome.Dropping.the-variants.{Lift, Replace}
 use Rattle.bridge.specs.Below.{Cut}
-use Rattle.bridge.specs.Without.{withoutTop}
+use Rattle.tree.specs.Without.{withoutTop}
 
 -- from t to t₁ the record at the top of S is gone, and slot k is free
 pub record Freed (t t₁ : List ℕ) (c : ℕ) (l : Link) (S : Tree) (k : ℕ) : Type 0 where

@@ -7,7 +7,7 @@ use Rattle.scope.specs.Table.{word, rootWord, countWord, zeroWord, slotAt}
 use Rattle.scope.specs.Fit.{blankSlot}
 use Rattle.scope.specs.Tree.{Tree, size, times, Ordered}
 use Rattle.scope.specs.Sound.{Sound, treeIn}
-use Rattle.words.specs.Ready.{Sized}
+use Rattle.spelling.specs.Ready.{Sized}
 
 -- t₂ is t₁ with other words 1 and 2, and T is a tree that a table of c slots may spell
 pub record Settled (t₁ t₂ : List ℕ) (c : ℕ) (T : Tree) : Type 0 where

@@ -13,12 +13,12 @@ use Rattle.scope.specs.declared.answer.Refusal.{Refusal}
 use Rattle.scope.specs.declared.answer.Refusal.the-variants.{WrongLength, OutOfRange, Damaged, KeyPresent, KeyAbsent, NoFreeSlot, LastChange, GuardFails, TooHigh, Unreadable}
 use Rattle.scope.specs.declared.answer.Gate.{Gate}
 use Rattle.scope.specs.declared.answer.Gate.the-variants.{Shut, Open}
-use Rattle.words.specs.Ready.{Sized}
-use Rattle.sound.specs.Whole.{Whole}
-use Rattle.sound.proofs.Exact.{sound-test}
-use Rattle.sound.proofs.Spell.{tree-in}
-use Rattle.sound.proofs.Opened.{opened}
-use Rattle.bridge.proofs.Calls.{sized-slots}
+use Rattle.spelling.specs.Ready.{Sized}
+use Rattle.spelling.specs.Whole.{Whole}
+use Rattle.spelling.proofs.Exact.{sound-test}
+use Rattle.spelling.proofs.Spell.{tree-in}
+use Rattle.spelling.proofs.Opened.{opened}
+use Rattle.bridge.proofs.Firing.Calls.{sized-slots}
 
 -- a gate whose three tests pass is open
 pub gate-opens : {t : List ℕ} {c : ℕ} (good : Bool) (whole : ℕ → Bool) → Sized t c → good ≡ true → whole c ≡ true

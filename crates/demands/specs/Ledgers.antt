@@ -1,22 +1,14 @@
 -- The ledger of a table: its records in the order of their keys, its change number, and its slots. Assumes nothing.
 use Prim.Native.Nat.{ℕ}
 use mathlib.Core.Path.{_≡_}
-use mathlib.Core.List.{List, map}
+use mathlib.Core.List.{List}
 use Rattle.scope.specs.Table.{word, changeWord}
-use Rattle.scope.specs.Tree.{Batch, Tree, inOrder}
 use Rattle.scope.specs.Sound.{treeIn}
 use Rattle.scope.specs.Answers.{Done}
 use Rattle.scope.specs.declared.answer.Answer.{Answer}
-use Rattle.sound.specs.Whole.{Whole}
-use Rattle.ledger.specs.Entries.{Entry}
+use Rattle.spelling.specs.Whole.{Whole}
+use Rattle.ledger.specs.OfTree.{entriesOf}
 use Rattle.ledger.specs.Ledger.{Ledger, Entered}
-
--- a record without its slot
-abbrev pub entryOf : Batch → Entry
-entryOf d = record { key = d .key; pieces = d .pieces; state = d .state }
-
-abbrev pub entriesOf : Tree → List Entry
-entriesOf T = map entryOf (inOrder T)
 
 abbrev pub ledgerOf : List ℕ → ℕ → Ledger
 ledgerOf t c = record { entries = entriesOf (treeIn t c); change = word t changeWord; capacity = c }

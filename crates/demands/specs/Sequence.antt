@@ -5,7 +5,7 @@ use mathlib.Core.Option.{Option, none, some}
 use mathlib.Core.List.{List, [], _∷_}
 use Rattle.scope.specs.Calls.{Call, Start, Check, Find, Post, Amend, Drop, Rank, Total, Worth, Fire, Tidy, answerOf, tableOf, answers, after}
 use Rattle.scope.specs.declared.answer.Answer.{Answer}
-use Rattle.sound.specs.Whole.{Whole}
+use Rattle.spelling.specs.Whole.{Whole}
 use Rattle.ledger.specs.Sequence.{ledgerAnswer, ledgerAfter, ledgerAnswers, ledgerAfterAll}
 use Rattle.demands.specs.Ledgers.{ledgerOf, noVisits, noSlot}
 

@@ -10,7 +10,7 @@ use Rattle.scope.specs.Fire.{fireOf}
 use Rattle.scope.specs.Tidy.{linkTo, nextOf, quiet, tidyAnswer, tidyTable}
 use Rattle.scope.specs.Calls.{answers, after}
 use Rattle.scope.specs.declared.outcome.Next.the-variants.{At, Nothing}
-use Rattle.sound.specs.Whole.{Whole}
+use Rattle.spelling.specs.Whole.{Whole}
 use Rattle.bridge.specs.Due.{Due}
 use Rattle.demands.specs.Fires.{Trial, fires}
 use Rattle.demands.specs.Ledgers.{ledgerOf}

@@ -13,7 +13,7 @@ use Rattle.scope.specs.declared.side.Side.the-variants.{Left}
 use Rattle.scope.specs.declared.side.Link.{Link}
 use Rattle.scope.specs.declared.outcome.Leftmost.{Leftmost}
 use Rattle.scope.specs.declared.outcome.Leftmost.the-variants.{Is, Broken}
-use Rattle.words.proofs.Laws.{fit-left, fit-right}
+use Rattle.spelling.proofs.Laws.{fit-left, fit-right}
 use Rattle.drop_plan.specs.Planned.{Reached}
 
 pub record Descending (t : List ℕ) (c : ℕ) (end : Leftmost) (more at : ℕ) (held : Link) : Type 0 where

@@ -8,7 +8,7 @@ use Rattle.scope.specs.declared.side.Side.{Side}
 use Rattle.scope.specs.declared.side.Link.{Link}
 use Rattle.scope.specs.declared.outcome.Dropping.{Dropping}
 use Rattle.scope.specs.declared.outcome.Dropping.the-variants.{Refuse, Lift, Replace}
-use Rattle.words.proofs.Laws.{fit-son}
+use Rattle.spelling.proofs.Laws.{fit-son}
 use Rattle.drop_plan.specs.Planned.{Found, Lifting, Aimed, May, CanDrop}
 
 -- a plan that is aimed at the table can be carried out once a record is counted and a change number is left

@@ -14,7 +14,7 @@ use Rattle.scope.specs.declared.outcome.Leftmost.{Leftmost}
 use Rattle.scope.specs.declared.outcome.Leftmost.the-variants as leftmost
 use Rattle.scope.specs.declared.outcome.Dropping.{Dropping}
 use Rattle.scope.specs.declared.outcome.Dropping.the-variants.{Refuse, Lift, Replace}
-use Rattle.words.specs.Ready.{Sized, Ready}
+use Rattle.spelling.specs.Ready.{Sized, Ready}
 use Rattle.settling.specs.Planned.{Placed}
 
 -- the slot of a hit is fit

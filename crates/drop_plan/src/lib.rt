@@ -9,7 +9,7 @@ use scope::Side;
 use scope::Walk;
 ghost use Prim.Native.Nat.{_≤_};
 ghost use Rattle.scope.specs.Drop.{leftmostFrom, ifMay, replacing, dropAt, droppingAt, dropPlan};
-ghost use Rattle.words.specs.Ready.{Headed, Ready};
+ghost use Rattle.spelling.specs.Ready.{Headed, Ready};
 ghost use Rattle.walk.specs.Walked.{Inside};
 ghost use Rattle.drop_plan.specs.Planned.{HitFits, Found, rightLink, Reached, Aimed, Planned};
 

@@ -26,8 +26,8 @@ use Rattle.scope.specs.declared.answer.Refusal.the-variants.{WrongLength, Damag
 use Rattle.scope.specs.declared.outcome.Nodes.{Nodes}
 use Rattle.scope.specs.declared.outcome.Firing.{Firing}
 use Rattle.scope.specs.declared.outcome.Firing.the-variants.{Refuse, Fire}
-use Rattle.words.specs.Ready.{Sized, Ready}
-use Rattle.words.proofs.Laws.{header-root, header-count}
+use Rattle.spelling.specs.Ready.{Sized, Ready}
+use Rattle.spelling.proofs.Laws.{header-root, header-count}
 use Rattle.fire_aim.specs.Aimed.{Aimed}
 
 -- a good header makes a table ready

@@ -12,7 +12,7 @@ ghost use mathlib.Core.Path.{_≡_};
 ghost use Prim.Native.Nat.{_≤_};
 ghost use Rattle.scope.specs.Fire.{aimed, fireAnswer, fireTable, onRule, onLink};
 ghost use Rattle.scope.specs.Numbers.{ruleOf, linkOf};
-ghost use Rattle.words.specs.Ready.{Sized};
+ghost use Rattle.spelling.specs.Ready.{Sized};
 ghost use Rattle.fire_aim.specs.Aimed.{Aimed};
 
 // Test 3's part for the header, then the nodes.

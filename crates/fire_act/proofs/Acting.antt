@@ -8,7 +8,7 @@ use Rattle.scope.specs.Rules.{action, actionAt, highestAt}
 use Rattle.scope.specs.declared.rule.Kind.{Kind}
 use Rattle.scope.specs.declared.rule.Rule.{Rule}
 use Rattle.scope.specs.declared.outcome.Nodes.{Nodes}
-use Rattle.words.specs.Ready.{Sized}
+use Rattle.spelling.specs.Ready.{Sized}
 use Rattle.fire_aim.specs.Aimed.{Within}
 use Rattle.fire_act.specs.Wrote.{InNodes, Kept, Low}
 

@@ -6,15 +6,14 @@ use Rattle.scope.specs.Numbers.{other}
 use Rattle.scope.specs.Table.{son, written}
 use Rattle.scope.specs.Edits.{sonOn, registerOn, placeOf, writes}
 use Rattle.scope.specs.Tree.{over}
-use Rattle.scope.specs.Rules.{seen, localHeight, propagated, rotated, rotatedTwice}
+use Rattle.scope.specs.Rules.{seen, localh, propagated, rotated, rotatedTwice, rotatedLinks, rotatedHeights, twiceTop, twiceSons, twiceCopied, twiceHeights}
 use Rattle.scope.specs.declared.rule.Pair.{Pair}
 use Rattle.scope.specs.declared.side.Side.{Side}
 use Rattle.scope.specs.declared.outcome.Nodes.{Nodes}
 use Rattle.fire_act.specs.Wrote.{Kept, Wrote}
-use Rattle.fire_act.specs.Parts.{rotatedLinks, rotatedHeights, twiceTop, twiceSons, twiceCopied, twiceHeights}
 
 module _ (t : List ℕ) (c : ℕ) (n : Nodes) (s : Side) where
-  pub propagate-written : {u : Pair} {h : ℕ} {a : List ℕ} → u ≡ seen s (n .su) → h ≡ localHeight u
+  pub propagate-written : {u : Pair} {h : ℕ} {a : List ℕ} → u ≡ seen s (n .su) → h ≡ localh u
       → Wrote t c (placeOf (n .v) (registerOn s)) h a → Kept c (written t (writes (propagated s n))) a
   unfolding written writes
   propagate-written p q x = record { is = simp (x .is, q, p); sized = x .sized }

@@ -8,7 +8,7 @@ use lib.ListN.{length, set, length-set}
 use Rattle.scope.specs.Table.{registerAt}
 use Rattle.scope.specs.Edits.{registerOn, placeOf}
 use Rattle.scope.specs.declared.side.Side.{Side}
-use Rattle.words.specs.Ready.{Sized}
+use Rattle.spelling.specs.Ready.{Sized}
 use Rattle.fire_act.specs.Wrote.{Kept}
 
 -- a register of a slot stands among its words

@@ -1,3 +1,2 @@
 -- What the functions of `acts` ask and promise beside `scope`.
 pub mod Wrote
-pub mod Parts

@@ -7,7 +7,7 @@ use Rattle.scope.specs.Rules.{seen, highest}
 use Rattle.scope.specs.declared.side.Side.{Side}
 use Rattle.scope.specs.declared.rule.Kind.{Kind}
 use Rattle.scope.specs.declared.outcome.Nodes.{Nodes}
-use Rattle.words.specs.Ready.{Sized}
+use Rattle.spelling.specs.Ready.{Sized}
 use Rattle.fire_aim.specs.Aimed.{Inside}
 
 -- slot k of a table of c slots

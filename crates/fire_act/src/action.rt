@@ -10,12 +10,11 @@ use scope::Rule;
 use scope::Side;
 ghost use Rattle.scope.specs.Table.{written};
 ghost use Rattle.scope.specs.Edits.{writes};
-ghost use Rattle.scope.specs.Rules.{actionAt, propagated, rotated, rotatedTwice};
+ghost use Rattle.scope.specs.Rules.{actionAt, propagated, rotated, rotatedTwice, rotatedLinks, rotatedHeights, twiceTop, twiceSons, twiceCopied, twiceHeights};
 ghost use Rattle.scope.specs.declared.rule.Kind.the-variants.{Propagate, Lean, Double};
 ghost use Rattle.fire_aim.specs.Aimed.{Within};
 ghost use Rattle.fire_act.specs.Wrote.{InNodes, Kept, Low};
-ghost use Rattle.fire_act.specs.Parts.{rotatedLinks, rotatedHeights, twiceTop, twiceSons, twiceCopied, twiceHeights};
-ghost use Rattle.words.specs.Ready.{Sized};
+ghost use Rattle.spelling.specs.Ready.{Sized};
 
 // v's near register takes u's local height.
 pub fn propagate(t: &mut [u32], c: usize, n: Nodes, near: Side)
@@ -27,7 +26,7 @@ pub fn propagate(t: &mut [u32], c: usize, n: Nodes, near: Side)
         c,
         n.v,
         near,
-        fire_guards::local_height(fire_guards::seen(n.su, near)),
+        fire_guards::localh(fire_guards::seen(n.su, near)),
     );
 }
 

@@ -3,7 +3,7 @@ use scope::Link;
 use scope::Side;
 ghost use Prim.Native.Nat.{_≤_};
 ghost use Rattle.scope.specs.Edits.{sonOn, registerOn, placeOf};
-ghost use Rattle.words.specs.Ready.{Sized};
+ghost use Rattle.spelling.specs.Ready.{Sized};
 ghost use Rattle.fire_act.specs.Wrote.{Wrote, InSlot};
 
 // A slot's number, or 0, at a link.

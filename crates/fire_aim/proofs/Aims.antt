@@ -18,8 +18,8 @@ use Rattle.scope.specs.declared.outcome.Taken.the-variants.{Got, Not}
 use Rattle.scope.specs.declared.outcome.Nodes.{Nodes}
 use Rattle.scope.specs.declared.outcome.Firing.{Firing}
 use Rattle.scope.specs.declared.outcome.Firing.the-variants.{Refuse}
-use Rattle.words.specs.Ready.{Ready}
-use Rattle.words.proofs.Laws.{fit-son, link-son}
+use Rattle.spelling.specs.Ready.{Ready}
+use Rattle.spelling.proofs.Laws.{fit-son, link-son}
 use Rattle.fire_aim.specs.Aimed.{Reached, Nearby, Inside, Aimed}
 use Rattle.fire_aim.proofs.Taking.{took}
 use Rattle.fire_aim.proofs.Judging.{may-judged}

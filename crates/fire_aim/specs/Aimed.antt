@@ -9,7 +9,7 @@ use Rattle.scope.specs.declared.side.Link.{Link}
 use Rattle.scope.specs.declared.outcome.Nodes.{Nodes}
 use Rattle.scope.specs.declared.outcome.Firing.{Firing}
 use Rattle.scope.specs.declared.outcome.Firing.the-variants.{Refuse, Fire}
-use Rattle.words.specs.Ready.{Sized}
+use Rattle.spelling.specs.Ready.{Sized}
 
 -- a link of a table of c slots that holds a slot of it, or nothing
 pub record Reached (t : List ℕ) (c : ℕ) (link : Link) : Type 0 where

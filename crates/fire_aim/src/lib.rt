@@ -17,7 +17,7 @@ ghost use Rattle.scope.specs.Table.{son};
 ghost use Rattle.scope.specs.Numbers.{other};
 ghost use Rattle.scope.specs.Rules.{guardAt, highestAt};
 ghost use Rattle.scope.specs.Fire.{takeOf, judged, hasThird, aimW, aimU, aimV, aim};
-ghost use Rattle.words.specs.Ready.{Sized, Ready};
+ghost use Rattle.spelling.specs.Ready.{Sized, Ready};
 ghost use Rattle.fire_aim.specs.Aimed.{Aimed, Nearby, Reached};
 
 // A slot that a firing names: it has to be there, fit, and none of the slots a, b and e before it.

@@ -7,7 +7,7 @@ ghost use mathlib.Core.Path.{_≡_};
 ghost use mathlib.Core.Bool.{cond};
 ghost use Prim.Native.Nat.{max};
 ghost use Rattle.scope.specs.Tree.{over};
-ghost use Rattle.scope.specs.Rules.{seen, localHeight, reliable, heavy, guard, highest};
+ghost use Rattle.scope.specs.Rules.{seen, localh, reliable, heavy, guard, highest};
 ghost use Rattle.scope.specs.declared.rule.Kind.the-variants.{Even, Lean, Double};
 ghost use Rattle.fire_guards.specs.Leans.{leans};
 
@@ -34,8 +34,8 @@ pub fn over(a: u32, b: u32) -> u64
     1 + larger(a as u64, b as u64)
 }
 
-pub fn local_height(x: Pair) -> u64
-    ensures { λ r. ⌜ r ≡ localHeight x ⌝ }
+pub fn localh(x: Pair) -> u64
+    ensures { λ r. ⌜ r ≡ localh x ⌝ }
 {
     over(x.near, x.far)
 }
@@ -44,7 +44,7 @@ pub fn local_height(x: Pair) -> u64
 pub fn reliable(above: u32, x: Pair) -> bool
     ensures { λ r. ⌜ r ≡ reliable above x ⌝ }
 {
-    above as u64 == local_height(x)
+    above as u64 == localh(x)
 }
 
 // Two or more higher on the near side.
@@ -89,7 +89,7 @@ pub fn highest(kind: Kind, v: Pair, u: Pair, w: Pair) -> u64
     ensures { λ r. ⌜ r ≡ highest kind v u w ⌝ }
 {
     match kind {
-        Kind::Propagate => local_height(u),
+        Kind::Propagate => localh(u),
         Kind::Lean => over(u.far, v.far),
         Kind::Even => over(u.far, v.far),
         Kind::Double => larger(over(u.near, w.near), over(w.far, v.far)),

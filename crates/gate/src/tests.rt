@@ -8,7 +8,7 @@ use words::zero;
 ghost use mathlib.Core.Path.{_≡_};
 ghost use Rattle.scope.specs.Fit.{stateOk, piecesOk, fitSlot, blankSlot, headerOk};
 ghost use Rattle.gate.specs.Parts.{burdenOf, registersOk, endsOk, recordOk, linksOk};
-ghost use Rattle.words.specs.Ready.{Headed};
+ghost use Rattle.spelling.specs.Ready.{Headed};
 
 pub fn state_ok(s: u32) -> bool
     ensures { λ r. ⌜ r ≡ stateOk s ⌝ }

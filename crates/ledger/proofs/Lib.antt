@@ -1,2 +1,3 @@
 -- Laws of lists of records.
 pub mod Lists
+pub mod Entries

@@ -2,3 +2,4 @@
 pub mod Entries
 pub mod Ledger
 pub mod Sequence
+pub mod OfTree

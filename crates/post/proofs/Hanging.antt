@@ -15,7 +15,7 @@ use Rattle.scope.specs.declared.slot.Slot.{Slot}
 use Rattle.scope.specs.declared.side.Link.{Link}
 use Rattle.scope.specs.declared.answer.Refusal.the-variants.{Damaged, NoFreeSlot, LastChange}
 use Rattle.scope.specs.declared.outcome.Posting.the-variants.{Refuse, Hang}
-use Rattle.words.specs.Ready.{Ready}
+use Rattle.spelling.specs.Ready.{Ready}
 use Rattle.settling.specs.Planned.{Planned}
 
 module _ (t : List ℕ) (c : ℕ) (link : Link) (k : ℕ) where

@@ -12,7 +12,7 @@ ghost use mathlib.Core.Path.{_≡_};
 ghost use Prim.Native.Nat.{_≤_};
 ghost use Rattle.scope.specs.Post.{recordOk, hangAt, postingAt, postPlan, leafSlot, posted, postAnswer, postTable};
 ghost use Rattle.scope.specs.declared.outcome.Posting.the-variants.{Hang};
-ghost use Rattle.words.specs.Ready.{Ready};
+ghost use Rattle.spelling.specs.Ready.{Ready};
 ghost use Rattle.walk.specs.Walked.{Inside};
 ghost use Rattle.settling.specs.Ends.{Does};
 ghost use Rattle.settling.specs.Planned.{Hangable, Planned};

@@ -8,8 +8,8 @@ use borrow.Author.Tests.{lt-ltb, le-ltb}
 use Rattle.scope.specs.Tree.{Tree, size, inOrder}
 use Rattle.scope.specs.Table.{word, rootWord, countWord}
 use Rattle.scope.specs.Sound.{batchAt, treeIn}
-use Rattle.sound.specs.Whole.{Whole}
-use Rattle.sound.proofs.Spell.{tree-in}
+use Rattle.spelling.specs.Whole.{Whole}
+use Rattle.spelling.proofs.Spell.{tree-in}
 use Rattle.scope.specs.Sums.{slotsInOrder, pick, rankOf}
 use Rattle.scope.specs.declared.outcome.Rank.{Rank}
 use Rattle.scope.specs.declared.outcome.Rank.the-variants.{At, Past}

@@ -7,8 +7,8 @@ ghost use mathlib.Core.Path.{_≡_};
 ghost use Prim.Native.Nat.{_+_, _≤_, _<_};
 ghost use Rattle.scope.specs.Sound.{treeIn};
 ghost use Rattle.scope.specs.Sums.{rankOf, ranked, rankAnswer};
-ghost use Rattle.words.specs.Ready.{Headed};
-ghost use Rattle.sound.specs.Whole.{Whole};
+ghost use Rattle.spelling.specs.Ready.{Headed};
+ghost use Rattle.spelling.specs.Whole.{Whole};
 ghost use Rattle.total.specs.Hangs.{Hangs};
 ghost use Rattle.rank.specs.Ranks.{rankIn, Seeks};
 

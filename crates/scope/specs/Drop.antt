@@ -63,7 +63,7 @@ unfoldable pub dropPlan : List ℕ → ℕ → Dropping
 dropPlan t key =
     dropping (gate t (not (eqb key 0)) (λ c. headerOk c t)) (λ c. droppingAt t c (walkOf t c key))
 
--- the link takes the son; where that is 0 and a slot holds the link, the register beside it becomes 0
+-- a son takes a link; where the son is 0 and a slot holds the link, the register beside it becomes 0
 unfoldable pub relinked : List ℕ → Link → ℕ → List ℕ
 relinked t link son =
     cond (not (eqb son 0) || eqb (link .holder) 0) (set t (linkAt link) son)
@@ -82,12 +82,23 @@ withRecord s from = record {
   last = s .last;
 }
 
+-- with at most one son
 abbrev pub lifted : List ℕ → ℕ → Link → ℕ → List ℕ
-lifted t slot link son = withSlot (relinked t link son) slot zeroSlot
+lifted t slot link son =
+    -- that son, or 0, takes the record's link, and the register there becomes 0 if that is empty
+    let linked = relinked t link son in
+    -- the freed slot is zeroed
+    withSlot linked slot zeroSlot
 
+-- with two sons; `least` is m, the leftmost on the right, and `link` the link that leads to it
 abbrev pub replaced : List ℕ → ℕ → ℕ → Link → List ℕ
 replaced t slot least link =
-    withSlot (relinked (withSlot t slot (withRecord (slotAt t slot) (slotAt t least))) link (slotAt t least .right)) least zeroSlot
+    -- the dropped slot takes m's state, key and pieces
+    let taken = withSlot t slot (withRecord (slotAt t slot) (slotAt t least)) in
+    -- m's right son takes m's link, and the register there becomes 0 if that is empty
+    let linked = relinked taken link (slotAt t least .right) in
+    -- m's slot is zeroed
+    withSlot linked least zeroSlot
 
 -- one record fewer, one change more
 abbrev pub counted : List ℕ → List ℕ → List ℕ

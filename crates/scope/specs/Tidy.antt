@@ -28,7 +28,8 @@ nodesAt t r link v =
     let w = cond (hasThird (r .kind)) (son (slotAt t u) (other (r .side))) u in
     record { link = link; v = v; u = u; w = w; sv = slotAt t v; su = slotAt t u; sw = slotAt t w }
 
--- the nodes are there: v holds a record, and u and w are slots of a table of c
+-- the nodes are there: v holds a record, and u and w are slots of a table of c. On a sound table, and tidy fires on no
+-- other, links never lead outside it; the test makes the definition say every word for any words at all
 abbrev pub present : ℕ → Nodes → Bool
 present c n =
     not (eqb (n .sv .state) 0) && (not (eqb (n .u) 0) && leb (n .u) c) && (not (eqb (n .w) 0) && leb (n .w) c)
@@ -83,7 +84,8 @@ linkFrom (suc left) t v k =
 unfoldable pub linkTo : List ℕ → ℕ → ℕ → Link
 linkTo t c v = linkFrom c t v 1
 
--- the table after rule n has fired at slot v
+-- the table after rule n has fired at slot v. Tidy goes by v, and fire by the link that leads to it and with tests that a
+-- sound table always passes; that both do the same there is a theorem (`due-tried` in `demands`)
 abbrev pub firedBy : List ℕ → ℕ → ℕ → RuleIs → List ℕ
 firedBy t c v rule-is.Unknown = t
 firedBy t c v (rule-is.Known r) = written t (actionAt r (nodesAt t r (linkTo t c v) v))

@@ -9,7 +9,7 @@ use Rattle.scope.specs.declared.outcome.Posting.{Posting}
 use Rattle.scope.specs.declared.outcome.Posting.the-variants as posting
 use Rattle.scope.specs.declared.outcome.Amending.{Amending}
 use Rattle.scope.specs.declared.outcome.Amending.the-variants as amending
-use Rattle.words.specs.Ready.{Ready}
+use Rattle.spelling.specs.Ready.{Ready}
 
 -- slot k is one of the table's
 pub record Placed (t : List ℕ) (k : ℕ) : Type 0 where

@@ -2,7 +2,7 @@
 use scope::Answer;
 ghost use Prim.Native.Nat.{_≤_, _<_};
 ghost use Rattle.scope.specs.Numbers.{lastChange};
-ghost use Rattle.words.specs.Ready.{Headed};
+ghost use Rattle.spelling.specs.Ready.{Headed};
 ghost use Rattle.settling.specs.Ends.{Does, numbered, settled};
 
 // One change more than before.

@@ -10,18 +10,18 @@ use borrow.Author.Tests.{eq-eqb, ne-eqb, eqb-false, not-true}
 use Rattle.scope.proofs.Bools.{and-l, and-r, by-bool, neither}
 use Rattle.scope.specs.Table.{word, rootWord, countWord, slotAt, base}
 use Rattle.scope.specs.Fit.{stateOk, fitSlot, headerOk, blankSlot}
-use Rattle.scope.specs.Tree.{Batch, Tree, leaf, node, size, same, times, Above, Below}
+use Rattle.scope.specs.Tree.{Batch, Tree, leaf, node, size, times, Above, Below}
 use Rattle.scope.specs.Sound.{Spells, soundTable, Sound}
 use Rattle.scope.specs.declared.slot.Slot.{Slot}
-use Rattle.words.proofs.Laws.{header-root, fit-left, fit-right}
 use Rattle.marks.specs.Marks.{bitAt, Past}
 use Rattle.marks.proofs.Laws.{bit-small}
 use Rattle.marks.proofs.Passing.{all-on}
 use Rattle.sound.specs.Scan.{Fine, Good, Scanned, scanOf, settledAt, RestIs}
-use Rattle.sound.proofs.Order.{bounded, between}
-use Rattle.sound.proofs.Spell.{unique}
+use Rattle.tree.proofs.Keys.Bounds.{bounded, between}
+use Rattle.spelling.proofs.Spell.{unique}
 use Rattle.sound.proofs.Steps.{was-spoiled, was-left}
-use Rattle.sound.proofs.Exact.{sound-test, unsound}
+use Rattle.spelling.proofs.Exact.{sound-test, unsound}
+use Rattle.spelling.proofs.Once.{once-all}
 
 -- one slot more is settled, and with it those that are passed over
 pub settled-past : (t m : List ℕ) {k r : ℕ} → ((j : ℕ) → 1 ≤ j → j < k → settledAt t m j ≡ true) → settledAt t m k ≡ true
@@ -34,34 +34,6 @@ settled-past t m {k} before here past j p q =
     ]
 
 module _ (t : List ℕ) (c : ℕ) where
-  -- the header is bad
-  pub by-header : headerOk c t ≡ false → soundTable t c ≡ false
-  unfolding soundTable
-  by-header e = simp e
-
-  -- a number that is no slot is not reached
-  pub outside : (k : ℕ) → ((y : ℕ) → 1 ≤ y → y ≤ c → k ≡ y → ⊥) → (x : ℕ) (T : Tree) → x ≤ c → Spells t c x T
-      → times k T ≡ 0
-  unfolding Spells times
-  outside k h x leaf q p = refl
-  outside k h x (node d a b l r) q p =
-      let el = outside k h (slotAt t x .left) l (fit-left c (slotAt t x) (p .fit) .0) (p .left) in
-      let er = outside k h (slotAt t x .right) r (fit-right c (slotAt t x) (p .fit) .0) (p .right) in
-      let here : same k (d .slot) ≡ 0 = rw (p .holds, ne-eqb k x (h x (p .there) q)) refl in
-      omega arith
-
-  -- so no number is reached twice, if no slot is
-  pub once-all : (s : Sound t c) → (k : ℕ) → times k (s .tree) ≤ 1
-  once-all s k = go (decLe 1 k) (decLe k c)
-    where
-      past : ((y : ℕ) → 1 ≤ y → y ≤ c → k ≡ y → ⊥) → times k (s .tree) ≤ 1
-      past h = omega (arith, outside k h (word t rootWord) (s .tree) (header-root c t (s .header)) (s .reached))
-
-      go : Dec (1 ≤ k) → Dec (k ≤ c) → times k (s .tree) ≤ 1
-      go (yes i) (yes j) = s .once k i j
-      go (yes i) (no j) = past (λ y u v e. omega arith)
-      go (no i) d = past (λ y u v e. omega arith)
-
   -- a fit slot's key is not 0
   key-some : (s : Slot) → fitSlot c s ≡ true → 0 < s .key
   unfolding fitSlot
@@ -92,7 +64,7 @@ module _ (t : List ℕ) (c : ℕ) where
           record {
             reached = s .reached;
             keys = between 0 4294967296 (s .tree) (record { above = b .0; below = b .1; order = s .order });
-            free = λ k h. omega (arith, zeros k h, once-all s k);
+            free = λ k h. omega (arith, zeros k h, once-all t c s k);
           }
 
       -- the scan finds damage

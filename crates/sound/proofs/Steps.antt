@@ -1,7 +1,7 @@
 -- The cases of the scan: the empty link, a slot refused, and a slot entered with its two sides. Assumes nothing.
 use Prim.Native.Nat.{ℕ, suc, _+_, _-_, _≤_, _<_}
 use mathlib.Core.Path.{_≡_, refl, sym, ap, _∙_, subst}
-use mathlib.Core.Bool.{Bool, true, false, cond, _&&_}
+use mathlib.Core.Bool.{Bool, true, false, _&&_}
 use mathlib.Core.List.{List}
 use native.Mathlib.Omega.{arith}
 use lib.Dec.{eqb, ltb}
@@ -14,14 +14,13 @@ use Rattle.scope.specs.Sound.{Spells, batchAt}
 use Rattle.scope.specs.declared.slot.Slot.{Slot}
 use Rattle.scope.specs.declared.outcome.Scan.{Scan}
 use Rattle.scope.specs.declared.outcome.Scan.the-variants.{Damaged, Left}
-use Rattle.words.proofs.Laws.{fit-left, fit-right}
+use Rattle.spelling.proofs.Laws.{fit-left, fit-right}
 use Rattle.marks.specs.Marks.{bitAt, Marked}
 use Rattle.marks.proofs.Laws.{bit-small, unmarked, adds}
-use Rattle.sound.specs.Scan.{Looking, inPlace, Welcome, Inside, Between, Fine, Good, Scanned, scanOf}
-use Rattle.sound.proofs.Spell.{topped, unique}
-
-pub same-self : (x : ℕ) → same x x ≡ 1
-same-self x = ap (λ (b : Bool). cond b 1 0) (eq-eqb x x refl)
+use Rattle.sound.specs.Scan.{Looking, inPlace, Welcome, Inside, Fine, Good, Scanned, scanOf}
+use Rattle.tree.specs.Between.{Between}
+use Rattle.spelling.proofs.Spell.{topped, unique}
+use Rattle.spelling.proofs.Frame.{same-self}
 
 -- what a slot in its place tells
 pub record Placed (c : ℕ) (s : Slot) (low high : ℕ) : Type 0 where

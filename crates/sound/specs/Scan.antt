@@ -7,14 +7,15 @@ use lib.ListN.{length}
 use lib.Dec.{eqb, ltb}
 use Rattle.scope.specs.Table.{slotAt}
 use Rattle.scope.specs.Fit.{fitSlot, blankSlot}
-use Rattle.scope.specs.Tree.{Tree, leaf, node, size, times}
+use Rattle.scope.specs.Tree.{Tree, size, times}
 use Rattle.scope.specs.Sound.{Spells}
 use Rattle.scope.specs.declared.slot.Slot.{Slot}
 use Rattle.scope.specs.declared.outcome.Visit.{Visit}
 use Rattle.scope.specs.declared.outcome.Visit.the-variants.{Refused, Entered}
 use Rattle.scope.specs.declared.outcome.Scan.{Scan}
 use Rattle.scope.specs.declared.outcome.Scan.the-variants.{Damaged, Left}
-use Rattle.words.specs.Ready.{Sized}
+use Rattle.spelling.specs.Ready.{Sized}
+use Rattle.tree.specs.Between.{Between}
 use Rattle.marks.specs.Marks.{bitAt, Marked}
 
 -- a table of c slots with its marks, and a link of it
@@ -48,12 +49,6 @@ pub record Inside (t m m' : List ℕ) (c x low high l r k : ℕ) : Type 0 where
 abbrev pub Visited : List ℕ → List ℕ → List ℕ → ℕ → ℕ → ℕ → ℕ → Visit → Type 0
 Visited t m m' c x low high Refused = Welcome t m c x low high → ⊥
 Visited t m m' c x low high (Entered l r k) = Inside t m m' c x low high l r k
-
--- the keys are in order and lie between two bounds
-unfoldable pub Between : ℕ → ℕ → Tree → Type 0
-Between low high leaf = Unit {0}
-Between low high (node d a b l r) =
-    (low < d .key) × (d .key < high) × Between low (d .key) l × Between (d .key) high r
 
 -- the tree hangs at link x, its keys in order, each of its slots reached once and not marked before
 pub record Fine (t m : List ℕ) (c x low high : ℕ) (T : Tree) : Type 0 where

@@ -10,7 +10,7 @@ ghost use Rattle.scope.specs.Table.{word, changeWord, InTable};
 ghost use Rattle.scope.specs.Sound.{soundTable};
 ghost use Rattle.scope.specs.Answers.{accepted};
 ghost use Rattle.scope.specs.Sums.{soundGate, checkAnswer};
-ghost use Rattle.words.specs.Ready.{Headed, Sized};
+ghost use Rattle.spelling.specs.Ready.{Headed, Sized};
 ghost use Rattle.sound.specs.Scan.{inPlace, settledAt, Looking, Scanning, Visited, Scanned, scanOf, RestIs};
 
 // One more than the largest key.

@@ -1,7 +1,7 @@
 // One step of `stand`: a line read, carried out on the table and answered in a lent buffer.
-use text_lines::Command;
 use scope::Answer;
 use scope::Refusal;
+use text_lines::Command;
 ghost use mathlib.Core.Path.{_≡_};
 ghost use Prim.Native.Nat.{_+_, _≤_};
 ghost use lib.ListN.{length};

@@ -13,7 +13,7 @@ use Rattle.scope.specs.Sums.{slotsInOrder, rankOf}
 use Rattle.text_print.specs.Put.{laid, PutIn}
 use Rattle.text_print.specs.Line.{recordLine, recordRoom}
 use Rattle.text_print.proofs.Laid.{both}
-use Rattle.sound.specs.Whole.{Whole}
+use Rattle.spelling.specs.Whole.{Whole}
 use Rattle.text_list.specs.List.{recordLines, rankLine}
 use Rattle.text_list.proofs.Slots.{slots-count, count-most, rank-at}
 

@@ -12,9 +12,9 @@ use Rattle.scope.specs.Tree.{Batch, Tree, leaf, node, size, inOrder}
 use Rattle.scope.specs.Sound.{Spells, treeIn}
 use Rattle.scope.specs.Sums.{slotsInOrder, pick, rankOf}
 use Rattle.scope.specs.declared.outcome.Rank.the-variants.{At, Past}
-use Rattle.words.proofs.Laws.{in-table, fit-left, fit-right, header-root, header-count}
-use Rattle.sound.specs.Whole.{Whole}
-use Rattle.sound.proofs.Spell.{tree-in}
+use Rattle.spelling.proofs.Laws.{in-table, fit-left, fit-right, header-root, header-count}
+use Rattle.spelling.specs.Whole.{Whole}
+use Rattle.spelling.proofs.Spell.{tree-in}
 use Rattle.rank.proofs.Pick.{order-node, order-size}
 
 -- each of some slots is one of c

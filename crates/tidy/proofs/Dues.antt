@@ -17,9 +17,9 @@ use Rattle.scope.specs.declared.outcome.Nodes.{Nodes}
 use Rattle.fire_aim.specs.Aimed.{Within}
 use Rattle.tidy_holders.specs.Codes.{linkOf}
 use Rattle.tidy_holders.specs.Away.{Unnoted}
-use Rattle.tidy_holders.proofs.DueNodes.{node-slots, nodes-lie, fired-is, whole-again}
-use Rattle.tidy_holders.proofs.DueNodes.{link-noted, away, holds-again, may-move, above-one, above-two}
-use Rattle.tidy_holders.proofs.AsBefore.{as-before}
+use Rattle.tidy_holders.proofs.Leaving.DueNodes.{node-slots, nodes-lie, fired-is, whole-again}
+use Rattle.tidy_holders.proofs.Leaving.DueNodes.{link-noted, away, holds-again, may-move, above-one, above-two}
+use Rattle.tidy_holders.proofs.Leaving.AsBefore.{as-before}
 use Rattle.tidy_sight.specs.Sight.{sightOf}
 use Rattle.tidy.specs.Roused.{Rousing}
 use Rattle.tidy.specs.Running.{Due, DueAt, Acted, Fired, SameTests}

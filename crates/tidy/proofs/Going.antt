@@ -9,7 +9,7 @@ use lib.ListN.{length}
 use Rattle.scope.specs.Tidy.{nextOf, quiet, firedAt, tidyFrom, Tidied}
 use Rattle.scope.specs.declared.outcome.Next.{Next}
 use Rattle.scope.specs.declared.outcome.Next.the-variants.{At, Nothing}
-use Rattle.words.specs.Ready.{Sized}
+use Rattle.spelling.specs.Ready.{Sized}
 use Rattle.tidy.specs.Found.{Rested, Passing, Found}
 use Rattle.tidy.specs.Running.{Due, Fired, Running, Ran}
 

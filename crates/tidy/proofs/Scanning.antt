@@ -9,7 +9,7 @@ use native.Mathlib.Decide.{ℕ-discrete, decLt}
 use borrow.Author.Tests.{ne-eqb}
 use Rattle.scope.specs.Tidy.{passes}
 use Rattle.scope.specs.declared.outcome.Next.the-variants.{At, Nothing}
-use Rattle.words.specs.Ready.{Sized}
+use Rattle.spelling.specs.Ready.{Sized}
 use Rattle.marks.specs.Marks.{bitAt}
 use Rattle.tidy_agenda.specs.Agenda.{Cleared, Lowest}
 use Rattle.marks.proofs.Passing.{all-marks}

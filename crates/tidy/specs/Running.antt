@@ -9,9 +9,9 @@ use Rattle.scope.specs.Rules.{actionAt}
 use Rattle.scope.specs.Tidy.{passes, firedAt, tidyFrom}
 use Rattle.scope.specs.declared.rule.Rule.{Rule}
 use Rattle.scope.specs.declared.outcome.Nodes.{Nodes}
-use Rattle.words.specs.Ready.{Sized}
+use Rattle.spelling.specs.Ready.{Sized}
 use Rattle.marks.specs.Marks.{bitAt}
-use Rattle.sound.specs.Whole.{Whole}
+use Rattle.spelling.specs.Whole.{Whole}
 use Rattle.fire_aim.specs.Aimed.{Within}
 use Rattle.fire_act.specs.Wrote.{Kept}
 use Rattle.tidy_holders.specs.Holds.{Holds, Entries, Moving, noted}

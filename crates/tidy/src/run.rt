@@ -10,8 +10,8 @@ use tidy_sight::look;
 ghost use mathlib.Core.Path.{_≡_};
 ghost use mathlib.Core.Bool.{cond};
 ghost use Rattle.scope.specs.Tidy.{quiet};
-ghost use Rattle.words.specs.Ready.{Sized};
-ghost use Rattle.sound.specs.Whole.{Whole};
+ghost use Rattle.spelling.specs.Ready.{Sized};
+ghost use Rattle.spelling.specs.Whole.{Whole};
 ghost use Rattle.tidy.specs.Running.{Due, DueAt, Acted, Fired, Running, Ran};
 
 // Fires a rule that is due at its nodes, and says the lowest slot at which a test may have changed.

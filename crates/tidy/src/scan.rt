@@ -3,7 +3,7 @@ use scope::Next;
 use scope::Rule;
 use tidy_sight::passes;
 use tidy_sight::stirs;
-ghost use Rattle.words.specs.Ready.{Sized};
+ghost use Rattle.spelling.specs.Ready.{Sized};
 ghost use Rattle.tidy.specs.Found.{Rested, Found};
 
 // Looks only at slots that are on, from a given one on, and takes off those at which no rule passes.

@@ -3,7 +3,7 @@ use crate::entry::note;
 use scope::Side;
 ghost use mathlib.Core.Path.{_≡_};
 ghost use lib.ListN.{length};
-ghost use Rattle.sound.specs.Whole.{Whole};
+ghost use Rattle.spelling.specs.Whole.{Whole};
 ghost use Rattle.tidy_holders.specs.Holds.{Entries, Holds, Sons, sonsNoted};
 
 // The two sons of slot k.

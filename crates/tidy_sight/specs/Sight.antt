@@ -10,7 +10,7 @@ use Rattle.scope.specs.Fire.{hasThird}
 use Rattle.scope.specs.declared.slot.Slot.{Slot}
 use Rattle.scope.specs.declared.side.Link.{Link}
 use Rattle.scope.specs.declared.rule.Rule.{Rule}
-use Rattle.words.specs.Ready.{Sized}
+use Rattle.spelling.specs.Ready.{Sized}
 use Rattle.tidy_sight.specs.declared.test.Sight.{Sight}
 use Rattle.tidy_sight.specs.declared.test.Sight.the-variants.{Missing, Seen}
 

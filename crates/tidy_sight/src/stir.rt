@@ -3,7 +3,7 @@ use scope::Side;
 use scope::Slot;
 use scope::State;
 ghost use mathlib.Core.Path.{_≡_};
-ghost use Rattle.words.specs.Ready.{Sized};
+ghost use Rattle.spelling.specs.Ready.{Sized};
 ghost use Rattle.tidy_sight.specs.Sight.{InSlot};
 ghost use Rattle.tidy_sight.specs.Stirring.{sideStirs, stirsAt};
 

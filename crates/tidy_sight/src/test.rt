@@ -75,7 +75,11 @@ pub fn judge(limited: bool, r: Rule, x: Sight) -> bool
         Sight::Missing => false,
         Sight::Seen(n) => {
             if fire_aim::guarded(r, n) {
-                if limited { fire_aim::within(r, n) } else { true }
+                if limited {
+                    fire_aim::within(r, n)
+                } else {
+                    true
+                }
             } else {
                 false
             }

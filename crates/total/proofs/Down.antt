@@ -8,9 +8,9 @@ use Rattle.scope.specs.Table.{word, rootWord, countWord, slotAt, InTable}
 use Rattle.scope.specs.Fit.{fitSlot}
 use Rattle.scope.specs.Tree.{Tree, leaf, node, size, Ordered}
 use Rattle.scope.specs.Sound.{Spells, batchAt, treeIn}
-use Rattle.words.proofs.Laws.{in-table, fit-left, fit-right, header-root, header-count}
-use Rattle.sound.specs.Whole.{Whole}
-use Rattle.sound.proofs.Spell.{unique, tree-in}
+use Rattle.spelling.proofs.Laws.{in-table, fit-left, fit-right, header-root, header-count}
+use Rattle.spelling.specs.Whole.{Whole}
+use Rattle.spelling.proofs.Spell.{unique, tree-in}
 use Rattle.total.specs.declared.Fork.{Fork}
 use Rattle.total.specs.Hangs.{Hangs, Says, forkAt}
 

@@ -9,7 +9,7 @@ use Rattle.scope.specs.Sound.{Spells, treeIn}
 use Rattle.scope.specs.Answers.{accepted, answering}
 use Rattle.scope.specs.Sums.{soundGate, totalOf}
 use Rattle.scope.specs.declared.answer.Answer.{Answer}
-use Rattle.words.specs.Ready.{Sized}
+use Rattle.spelling.specs.Ready.{Sized}
 use Rattle.total.specs.declared.Fork.{Fork}
 
 -- a tree of at most `more` slots hangs at link x

@@ -12,7 +12,7 @@ ghost use Rattle.scope.specs.Table.{InTable};
 ghost use Rattle.scope.specs.Tree.{over, trueHeight};
 ghost use Rattle.scope.specs.Sound.{treeIn};
 ghost use Rattle.scope.specs.Sums.{totalOf, totalAnswer};
-ghost use Rattle.sound.specs.Whole.{Whole};
+ghost use Rattle.spelling.specs.Whole.{Whole};
 ghost use Rattle.total.specs.Hangs.{Hangs, Says, forkAt, heightAnswer, Adding, totalOn};
 
 // A slot with its two sons.

@@ -6,3 +6,6 @@ pub mod Step
 pub mod Place
 pub mod Shape
 pub mod Variant
+pub mod Seek
+pub mod Without
+pub mod Between

@@ -6,7 +6,7 @@ use mathlib.Core.List.{List, [], _∷_}
 use lib.Dec.{leb}
 use Rattle.scope.specs.Numbers.{mostHeight}
 use Rattle.scope.specs.Tree.{Batch, Tree, leaf, node}
-use Rattle.scope.specs.Rules.{pair, localHeight, guard, highest, turnedV, doubledU, doubledV}
+use Rattle.scope.specs.Rules.{pair, localh, guard, highest, turnedV, doubledU, doubledV}
 use Rattle.scope.specs.declared.rule.Pair.{Pair}
 use Rattle.scope.specs.declared.side.Side.{Side}
 use Rattle.scope.specs.declared.side.Side.the-variants.{Left, Right}
@@ -28,14 +28,14 @@ onTop Right (node d a b l r) f = f d (pair b a) r l
 -- what the actions make of v over its near son u, and of v, u and u's far son w
 module _ (s : Side) (dv du : Batch) (v u : Pair) where
   abbrev pub propagated : Tree → Tree → Tree → Tree
-  propagated m n c = mk s dv (pair (localHeight u) (v .far)) (mk s du u m n) c
+  propagated m n c = mk s dv (pair (localh u) (v .far)) (mk s du u m n) c
 
   abbrev pub rotated : Tree → Tree → Tree → Tree
-  rotated m n c = mk s du (pair (u .near) (localHeight (turnedV v u))) m (mk s dv (turnedV v u) n c)
+  rotated m n c = mk s du (pair (u .near) (localh (turnedV v u))) m (mk s dv (turnedV v u) n c)
 
   abbrev pub doubled : Batch → Pair → Tree → Tree → Tree → Tree → Tree
   doubled dw w m e f c =
-      mk s dw (pair (localHeight (doubledU u w)) (localHeight (doubledV v w)))
+      mk s dw (pair (localh (doubledU u w)) (localh (doubledV v w)))
       (mk s du (doubledU u w) m e) (mk s dv (doubledV v w) f c)
 
 abbrev pub when : Bool → Tree → Option Tree

@@ -14,11 +14,10 @@ use Rattle.scope.specs.Walk.{stepOf, onStep, walkFrom, walkOf}
 use Rattle.scope.specs.declared.slot.Slot.{Slot}
 use Rattle.scope.specs.declared.side.Side.{Side}
 use Rattle.scope.specs.declared.side.Link.{Link}
-use Rattle.scope.specs.declared.outcome.Step.{Step}
 use Rattle.scope.specs.declared.outcome.Step.the-variants.{Here, Down, Broken}
 use Rattle.scope.specs.declared.outcome.Walk.the-variants.{Hit, Miss, Damage}
-use Rattle.words.specs.Ready.{Ready}
-use Rattle.words.proofs.Laws.{fit-left, fit-right}
+use Rattle.spelling.specs.Ready.{Ready}
+use Rattle.spelling.proofs.Laws.{fit-left, fit-right}
 use Rattle.gate.specs.Parts.{recordOk, linksOk}
 use Rattle.gate.proofs.Fitting.{fit-together}
 use Rattle.walk.specs.Walked.{Walked, Visiting, Last, wayOf}

@@ -12,7 +12,7 @@ ghost use mathlib.Core.Path.{_≡_};
 ghost use lib.ListN.{length, replicate};
 ghost use Rattle.scope.specs.Walk.{stepOf};
 ghost use Rattle.scope.specs.Find.{startAnswer, startTable, foundIn, findAnswer};
-ghost use Rattle.words.specs.Ready.{Sized, Ready};
+ghost use Rattle.spelling.specs.Ready.{Sized, Ready};
 ghost use Rattle.walk.specs.Walked.{Walked, Inside, wayOf, Stops};
 
 // The side on which a key would hang under a slot.

@@ -1,3 +1,2 @@
 -- Laws on the definitions that `words` computes.
-pub mod Laws
 pub mod Seeking

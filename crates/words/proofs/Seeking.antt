@@ -7,7 +7,7 @@ use borrow.Author.Tests.{eq-eqb, ne-eqb}
 use lib.ListN.{length}
 use Rattle.scope.specs.Table.{slotWords, word, slotAt}
 use Rattle.scope.specs.Post.{freeFrom, freeSlot}
-use Rattle.words.specs.Ready.{Sized, Free}
+use Rattle.spelling.specs.Ready.{Sized, Free}
 
 -- the slots before k are taken: what is left to search gives the whole answer
 pub record Seeking (t : List ℕ) (c k : ℕ) : Type 0 where

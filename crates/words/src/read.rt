@@ -6,7 +6,7 @@ ghost use mathlib.Core.Path.{_≡_};
 ghost use Prim.Native.Nat.{_≤_, _<_};
 ghost use lib.ListN.{length};
 ghost use Rattle.scope.specs.Table.{word, rootWord, countWord, changeWord, zeroWord, slotAt, son, register, linkAt, registerAt, InTable};
-ghost use Rattle.words.specs.Ready.{Headed};
+ghost use Rattle.spelling.specs.Ready.{Headed};
 
 // A word as an index.
 pub fn wide(x: u32) -> usize

@@ -1,7 +1,7 @@
 // The search for a free slot, place by place.
 use scope::Slot;
 use scope::State;
-ghost use Rattle.words.specs.Ready.{Sized, Free};
+ghost use Rattle.spelling.specs.Ready.{Sized, Free};
 
 // The lowest free slot, 0 for none.
 pub fn free_slot(t: &[u32], c: usize) -> usize

@@ -8,7 +8,7 @@ ghost use mathlib.Core.Path.{_≡_};
 ghost use Prim.Native.Nat.{_≤_, _<_};
 ghost use lib.ListN.{length, set};
 ghost use Rattle.scope.specs.Table.{countWord, changeWord, withSlot, linkAt, registerAt, InTable};
-ghost use Rattle.words.specs.Ready.{Headed};
+ghost use Rattle.spelling.specs.Ready.{Headed};
 
 // All eight words of a slot.
 pub fn put_slot(t: &mut [u32], k: usize, s: Slot)

@@ -8,9 +8,9 @@ use Rattle.scope.specs.Tree.{Batch, Tree, node, size, over}
 use Rattle.scope.specs.Sound.{batchAt, treeIn}
 use Rattle.scope.specs.Worth.{worthOf}
 use Rattle.scope.specs.declared.slot.Slot.{Slot}
-use Rattle.words.proofs.Laws.{fit-left, fit-right, header-count}
-use Rattle.sound.specs.Whole.{Whole}
-use Rattle.sound.proofs.Spell.{tree-in}
+use Rattle.spelling.proofs.Laws.{fit-left, fit-right, header-count}
+use Rattle.spelling.specs.Whole.{Whole}
+use Rattle.spelling.proofs.Spell.{tree-in}
 use Rattle.total.specs.declared.Fork.{Fork}
 use Rattle.total.specs.Hangs.{Hangs, Says}
 use Rattle.total.proofs.Down.{Forked, said-at, says-leaf, says-fork, said}

@@ -9,7 +9,7 @@ use Rattle.scope.specs.Tree.{Batch, Tree, leaf, node, size, over}
 use Rattle.scope.specs.Worth.{gap, negOf, posOf, NEG, POS, BAL, RBAL, worthOf}
 use Rattle.scope.specs.Sound.{Spells}
 use Rattle.scope.specs.declared.slot.Slot.{Slot}
-use Rattle.words.proofs.Laws.{fit-left, fit-right}
+use Rattle.spelling.proofs.Laws.{fit-left, fit-right}
 use Rattle.worth.specs.Weight.{weightOf, ownWeight, topOf}
 
 -- a product of a count and a height

@@ -7,7 +7,7 @@ ghost use Prim.Native.Nat.{_+_, _-_, _*_, _≤_, _<_};
 ghost use Rattle.scope.specs.Tree.{over};
 ghost use Rattle.scope.specs.Sound.{treeIn};
 ghost use Rattle.scope.specs.Worth.{gap, worthOf, worthAnswer};
-ghost use Rattle.sound.specs.Whole.{Whole};
+ghost use Rattle.spelling.specs.Whole.{Whole};
 ghost use Rattle.total.specs.Hangs.{Hangs, Says};
 ghost use Rattle.worth.specs.Weight.{ownWeight, loadOf, joined, topOf, Light, Laden, Bearable, Rooted};
 
@@ -22,7 +22,7 @@ pub fn gap(a: u64, b: u64) -> u64
 }
 
 // One more than the larger register of a slot.
-pub fn local_height(s: Slot) -> u64
+pub fn localh(s: Slot) -> u64
     ensures { λ r. ⌜ r ≡ over (s .lefth) (s .righth) ⌝ }
 {
     let a = words::long(s.lefth);
@@ -55,7 +55,7 @@ pub fn own_weight(s: Slot, out: u64, above: u64) -> u64
     requires { ⌜ Light s out above ⌝ }
     ensures { λ r. ⌜ (r ≡ ownWeight (s .lefth) (s .righth) out above) × (r ≤ 2000000000) ⌝ }
 {
-    let w = carry(out, local_height(s), above);
+    let w = carry(out, localh(s), above);
     let p = gap(words::long(s.lefth), words::long(s.righth));
     6 * w + balance(p)
 }
@@ -103,7 +103,7 @@ pub fn top(t: &[u32], x: usize) -> u64
     if x == 0 {
         0
     } else {
-        local_height(words::slot_at(t, x))
+        localh(words::slot_at(t, x))
     }
 }
 

@@ -2,7 +2,7 @@
 use mathlib.Core.Path.{sym, _∙_}
 use borrow.Author.Needs.{needs}
 use Rattle.scope.specs.Amend.{amendPlan}
-use Rattle.words.proofs.Laws.{gate-ready}
+use Rattle.spelling.proofs.Laws.{gate-ready}
 use Rattle.amend.proofs.plan_amend.Statement.{statement}
 use Rattle.amend.proofs.plan_amend.Tie as tie
 

@@ -3,7 +3,7 @@ use mathlib.Core.Path.{sym}
 use native.Mathlib.Omega.{arith}
 use borrow.Author.Needs.{needs}
 use Rattle.scope.specs.Drop.{relinked}
-use Rattle.words.proofs.Laws.{link-lt, register-lt}
+use Rattle.spelling.proofs.Laws.{link-lt, register-lt}
 use Rattle.drop.proofs.Relinking.{held-by}
 use Rattle.drop.proofs.relink.Statement.{statement}
 use Rattle.drop.proofs.relink.Tie as tie

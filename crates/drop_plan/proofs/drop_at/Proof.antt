@@ -5,7 +5,7 @@ use borrow.Author.Needs.{needs}
 use borrow.Author.Tests.{eq-eqb, ne-eqb}
 use Rattle.scope.specs.Drop.{dropAt}
 use Rattle.scope.specs.declared.side.Side.the-variants.{Left, Right}
-use Rattle.words.proofs.Laws.{in-table}
+use Rattle.spelling.proofs.Laws.{in-table}
 use Rattle.drop_plan.proofs.Plans.{read-son, aim-lift}
 use Rattle.drop_plan.proofs.drop_at.Statement.{statement}
 use Rattle.drop_plan.proofs.drop_at.Tie as tie

@@ -3,7 +3,7 @@ use mathlib.Core.Path.{refl}
 use native.Mathlib.Omega.{arith}
 use borrow.Author.Needs.{needs}
 use Rattle.scope.specs.Drop.{leftmostFrom}
-use Rattle.words.proofs.Laws.{in-table}
+use Rattle.spelling.proofs.Laws.{in-table}
 use Rattle.drop_plan.proofs.Descending.{Descending, down-spent, down-unfit, down-here, down-on}
 use Rattle.drop_plan.proofs.leftmost.Statement.{statement}
 use Rattle.drop_plan.proofs.leftmost.Tie as tie

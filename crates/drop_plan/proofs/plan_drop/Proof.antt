@@ -2,7 +2,7 @@
 use mathlib.Core.Path.{sym, _∙_}
 use borrow.Author.Needs.{needs}
 use Rattle.scope.specs.Drop.{dropPlan}
-use Rattle.words.proofs.Laws.{gate-ready}
+use Rattle.spelling.proofs.Laws.{gate-ready}
 use Rattle.drop_plan.proofs.Hits.{hit-fits}
 use Rattle.drop_plan.proofs.plan_drop.Statement.{statement}
 use Rattle.drop_plan.proofs.plan_drop.Tie as tie

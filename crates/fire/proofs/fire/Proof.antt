@@ -4,7 +4,7 @@ use native.Mathlib.Omega.{arith}
 use denote.Ref.{now}
 use borrow.Author.Needs.{needs}
 use Rattle.fire.proofs.Planned.{fire-shut, fire-refused, fire-fired}
-use Rattle.words.proofs.Laws.{slots-room}
+use Rattle.spelling.proofs.Laws.{slots-room}
 use Rattle.scope.specs.Answers.{Done}
 use Rattle.fire.proofs.fire.Statement.{statement}
 use Rattle.fire.proofs.fire.Tie as tie

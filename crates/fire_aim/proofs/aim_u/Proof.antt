@@ -4,7 +4,7 @@ use borrow.Author.Needs.{needs}
 use Rattle.fire_aim.proofs.Aims.{aim-u-not, aim-u-third, aim-u-got}
 use Rattle.fire_aim.proofs.Taking.{took}
 use Rattle.scope.specs.Numbers.{other}
-use Rattle.words.proofs.Laws.{fit-son}
+use Rattle.spelling.proofs.Laws.{fit-son}
 use Rattle.fire_aim.proofs.aim_u.Statement.{statement}
 use Rattle.fire_aim.proofs.aim_u.Tie as tie
 

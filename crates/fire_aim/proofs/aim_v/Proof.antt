@@ -3,7 +3,7 @@ use mathlib.Core.Path.{sym, _∙_}
 use native.Mathlib.Omega.{arith}
 use borrow.Author.Needs.{needs}
 use Rattle.fire_aim.proofs.Aims.{aim-v-not, aim-v-near, aim-v-got}
-use Rattle.words.proofs.Laws.{link-lt}
+use Rattle.spelling.proofs.Laws.{link-lt}
 use Rattle.fire_aim.proofs.aim_v.Statement.{statement}
 use Rattle.fire_aim.proofs.aim_v.Tie as tie
 

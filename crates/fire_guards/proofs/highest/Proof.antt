@@ -6,8 +6,8 @@ use Rattle.fire_guards.proofs.highest.Tie as tie
 enum-told : tie.Need-enum-told
 enum-told c = search needs
 
-local-height-requires : tie.Need-local-height-requires
-local-height-requires c κs = search needs
+localh-requires : tie.Need-localh-requires
+localh-requires c κs = search needs
 
 enum-told-2 : tie.Need-enum-told-2
 enum-told-2 c = search needs
@@ -34,7 +34,7 @@ larger-requires : tie.Need-larger-requires
 larger-requires c κs = search needs
 
 returns : tie.Need-returns
-returns c = simp (c .before .enum-told .given .1) (c .local-height .ensures)
+returns c = simp (c .before .enum-told .given .1) (c .localh .ensures)
 
 returns-2 : tie.Need-returns-2
 returns-2 c = simp (c .before .enum-told2 .given .1) (c .over .ensures)
@@ -50,7 +50,7 @@ highest-spec =
     tie.close
     (tie.spec
     enum-told
-    local-height-requires
+    localh-requires
     enum-told-2
     over-requires
     enum-told-3

@@ -1,7 +1,7 @@
 -- `post::hang` meets its contract. Assumes nothing.
 use native.Mathlib.Omega.{arith}
 use borrow.Author.Needs.{needs}
-use Rattle.words.proofs.Laws.{link-lt}
+use Rattle.spelling.proofs.Laws.{link-lt}
 use Rattle.post.proofs.Written.{hung-by}
 use Rattle.post.proofs.hang.Statement.{statement}
 use Rattle.post.proofs.hang.Tie as tie

@@ -2,7 +2,7 @@
 use mathlib.Core.Path.{sym, _∙_}
 use borrow.Author.Needs.{needs}
 use Rattle.scope.specs.Post.{postPlan}
-use Rattle.words.proofs.Laws.{gate-ready}
+use Rattle.spelling.proofs.Laws.{gate-ready}
 use Rattle.post.proofs.plan_post.Statement.{statement}
 use Rattle.post.proofs.plan_post.Tie as tie
 

@@ -4,7 +4,7 @@ use native.Mathlib.Omega.{arith}
 use lib.Dec.{eqb}
 use borrow.Author.Tests.{eqb-false, not-true}
 use Rattle.scope.specs.Sums.{rankAnswer}
-use Rattle.sound.proofs.Opened.{opened, asked, headed}
+use Rattle.spelling.proofs.Opened.{opened, asked, headed}
 use borrow.Author.Needs.{needs}
 use Rattle.rank.proofs.rank.Statement.{statement}
 use Rattle.rank.proofs.rank.Tie as tie

@@ -1,6 +1,6 @@
 -- `sound::check` meets its contract. Assumes nothing.
 use Rattle.scope.specs.Sums.{checkAnswer}
-use Rattle.sound.proofs.Opened.{opened, headed}
+use Rattle.spelling.proofs.Opened.{opened, headed}
 use mathlib.Core.Path.{sym}
 use borrow.Author.Needs.{needs}
 use Rattle.sound.proofs.check.Statement.{statement}

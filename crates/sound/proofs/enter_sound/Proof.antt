@@ -1,7 +1,7 @@
 -- `sound::enter_sound` meets its contract. Assumes nothing.
 use mathlib.Core.Path.{sym, _∙_}
-use Rattle.words.proofs.Laws.{gate-ready}
-use Rattle.sound.proofs.Opened.{shut-too, open-too}
+use Rattle.spelling.proofs.Laws.{gate-ready}
+use Rattle.spelling.proofs.Opened.{shut-too, open-too}
 use borrow.Author.Needs.{needs}
 use Rattle.sound.proofs.enter_sound.Statement.{statement}
 use Rattle.sound.proofs.enter_sound.Tie as tie

@@ -2,9 +2,10 @@
 use mathlib.Core.Path.{refl, sym, _∙_}
 use native.Mathlib.Omega.{arith}
 use borrow.Author.Needs.{needs}
-use Rattle.words.proofs.Laws.{header-root, header-count}
+use Rattle.spelling.proofs.Laws.{header-root, header-count}
 use Rattle.marks.proofs.Laws.{no-marks}
-use Rattle.sound.proofs.Ends.{by-header, by-missing, by-pass}
+use Rattle.sound.proofs.Ends.{by-missing, by-pass}
+use Rattle.spelling.proofs.Once.{by-header}
 use Rattle.sound.proofs.sound.Statement.{statement}
 use Rattle.sound.proofs.sound.Tie as tie
 use Rattle.gate.proofs.header_ok.Reads as header-ok-reads

@@ -2,7 +2,7 @@
 use mathlib.Core.Path.{sym}
 use native.Mathlib.Omega.{arith}
 use borrow.Author.Needs.{needs}
-use Rattle.sound.proofs.Opened.{opened}
+use Rattle.spelling.proofs.Opened.{opened}
 use Rattle.text_list.specs.List.{listText}
 use Rattle.text_list.proofs.Records.{wider}
 use Rattle.text_list.proofs.put_list.Statement.{statement}

@@ -1,5 +1,5 @@
 -- `total::height` meets its contract. Assumes nothing.
-use Rattle.sound.proofs.Opened.{opened, headed}
+use Rattle.spelling.proofs.Opened.{opened, headed}
 use Rattle.total.specs.Hangs.{heightAnswer}
 use mathlib.Core.Path.{sym}
 use borrow.Author.Needs.{needs}

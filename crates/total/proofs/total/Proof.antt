@@ -1,6 +1,6 @@
 -- `total::total` meets its contract. Assumes nothing.
 use Rattle.scope.specs.Sums.{totalAnswer}
-use Rattle.sound.proofs.Opened.{opened, headed}
+use Rattle.spelling.proofs.Opened.{opened, headed}
 use mathlib.Core.Path.{sym}
 use borrow.Author.Needs.{needs}
 use Rattle.total.proofs.total.Statement.{statement}

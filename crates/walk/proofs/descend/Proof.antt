@@ -3,7 +3,7 @@ use Prim.Native.Nat.{_-_}
 use mathlib.Core.Path.{_∙_, sym}
 use native.Mathlib.Omega.{arith}
 use borrow.Author.Needs.{needs}
-use Rattle.words.proofs.Laws.{in-table}
+use Rattle.spelling.proofs.Laws.{in-table}
 use Rattle.walk.specs.Walked.{Visiting}
 use Rattle.walk.proofs.Visits.{first, stops-here, stops-spent, stops-unlinked, stops-unfit, passes}
 use Rattle.walk.proofs.descend.Statement.{statement}

@@ -1,7 +1,7 @@
 -- `walk::find` meets its contract. Assumes nothing.
 use mathlib.Core.Path.{_∙_, sym}
 use borrow.Author.Needs.{needs}
-use Rattle.words.proofs.Laws.{gate-ready}
+use Rattle.spelling.proofs.Laws.{gate-ready}
 use Rattle.scope.specs.Find.{findAnswer}
 use Rattle.walk.proofs.find.Statement.{statement}
 use Rattle.walk.proofs.find.Tie as tie

@@ -1,7 +1,7 @@
 -- `walk::outcome` meets its contract. Assumes nothing.
 use mathlib.Core.Path.{sym, _∙_}
 use borrow.Author.Needs.{needs}
-use Rattle.words.proofs.Laws.{in-table}
+use Rattle.spelling.proofs.Laws.{in-table}
 use Rattle.walk.proofs.Visits.{no-root, at-broken, at-hit, at-miss}
 use Rattle.walk.proofs.outcome.Statement.{statement}
 use Rattle.walk.proofs.outcome.Tie as tie

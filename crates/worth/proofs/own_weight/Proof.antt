@@ -5,8 +5,8 @@ use borrow.Author.Needs.{needs}
 use Rattle.worth.proofs.own_weight.Statement.{statement}
 use Rattle.worth.proofs.own_weight.Tie as tie
 
-local-height-requires : tie.Need-local-height-requires
-local-height-requires c κs = search needs
+localh-requires : tie.Need-localh-requires
+localh-requires c κs = search needs
 
 carry-requires : tie.Need-carry-requires
 carry-requires c κs = search needs
@@ -34,7 +34,7 @@ returns c =
     let start = c .before .before .before .before .before .before in
     let e = own-eq (start .args .s) (start .args .out) (start .args .above) (c .before .before .before .long .ensures)
     (c .before .before .long2 .ensures)
-    (c .before .before .before .before .before .local-height .ensures)
+    (c .before .before .before .before .before .localh .ensures)
     (c .before .before .before .before .carry .ensures .0) (c .before .gap .ensures) (c .balance .ensures) in
     let light = start .pre in (
       e,
@@ -50,7 +50,7 @@ pub own-weight-spec : {M : Type 1} → statement M
 own-weight-spec =
     tie.close
     (tie.spec
-    local-height-requires
+    localh-requires
     carry-requires
     long-requires
     long-requires-2

@@ -13,8 +13,8 @@ use Rattle.worth.proofs.top.Tie as tie
 slot-at-requires : tie.Need-slot-at-requires
 slot-at-requires c κs = search needs
 
-local-height-requires : tie.Need-local-height-requires
-local-height-requires c κs = search needs
+localh-requires : tie.Need-localh-requires
+localh-requires c κs = search needs
 
 returns : tie.Need-returns
 unfolding topOf
@@ -23,7 +23,7 @@ returns c = (says-leaf _ _ topOf (c .if1 .taken), omega arith)
 returns-2 : tie.Need-returns-2
 returns-2 c =
     top-here (forked (c .before .before .before .before .pre .1) (c .before .before .if1 .left) refl)
-    (c .local-height .ensures ∙ ap (λ (s : Slot). over (s .lefth) (s .righth)) (c .before .slot-at .ensures))
+    (c .localh .ensures ∙ ap (λ (s : Slot). over (s .lefth) (s .righth)) (c .before .slot-at .ensures))
 
 pub top-spec : {M : Type 1} → statement M
-top-spec = tie.close (tie.spec slot-at-requires local-height-requires returns returns-2)
+top-spec = tie.close (tie.spec slot-at-requires localh-requires returns returns-2)

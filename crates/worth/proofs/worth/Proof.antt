@@ -1,6 +1,6 @@
 -- `worth::worth` meets its contract. Assumes nothing.
 use Rattle.scope.specs.Worth.{worthAnswer}
-use Rattle.sound.proofs.Opened.{opened, headed}
+use Rattle.spelling.proofs.Opened.{opened, headed}
 use mathlib.Core.Path.{sym}
 use borrow.Author.Needs.{needs}
 use Rattle.worth.proofs.worth.Statement.{statement}

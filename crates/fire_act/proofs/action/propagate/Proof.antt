@@ -8,21 +8,21 @@ use Rattle.fire_act.proofs.action.propagate.Tie as tie
 seen-requires : tie.Need-seen-requires
 seen-requires c κs = search needs
 
-local-height-requires : tie.Need-local-height-requires
-local-height-requires c κs = search needs
+localh-requires : tie.Need-localh-requires
+localh-requires c κs = search needs
 
 put-height-requires : tie.Need-put-height-requires
 put-height-requires c κs = let p = c .before .before .before .before .pre in
-    (record { sized = p .0 .sized; first = p .0 .nodes .v-first; most = p .0 .nodes .v-most }, simp (c .local-height .ensures, c .before .seen .ensures) (p .1))
+    (record { sized = p .0 .sized; first = p .0 .nodes .v-first; most = p .0 .nodes .v-most }, simp (c .localh .ensures, c .before .seen .ensures) (p .1))
 
 same-length : tie.Need-same-length
 same-length c = search needs
 
 returns : tie.Need-returns
 returns c = let a = c .before .before .before .before .before .before .before .args in
-    propagate-written (now (a .t)) (a .c) (a .n) (a .near) (c .before .before .before .before .seen .ensures) (c .before .before .before .local-height .ensures) (c .before .before .put-height .ensures)
+    propagate-written (now (a .t)) (a .c) (a .n) (a .near) (c .before .before .before .before .seen .ensures) (c .before .before .before .localh .ensures) (c .before .before .put-height .ensures)
 
 pub propagate-spec : {M : Type 1} → statement M
 propagate-spec =
     tie.close
-    (tie.spec seen-requires local-height-requires put-height-requires same-length returns)
+    (tie.spec seen-requires localh-requires put-height-requires same-length returns)

@@ -3,7 +3,7 @@ use mathlib.Core.Path.{_∙_, sym}
 use native.Mathlib.Omega.{arith}
 use denote.Ref.{now}
 use borrow.Author.Needs.{needs}
-use Rattle.words.proofs.Laws.{slots-room}
+use Rattle.spelling.proofs.Laws.{slots-room}
 use Rattle.scope.specs.Answers.{gate}
 use Rattle.gate.proofs.call.enter.Statement.{statement}
 use Rattle.gate.proofs.call.enter.Tie as tie

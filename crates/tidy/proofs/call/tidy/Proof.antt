@@ -3,7 +3,7 @@ use mathlib.Core.Path.{sym, _∙_, ap}
 use native.Mathlib.Omega.{arith}
 use denote.Ref.{now}
 use borrow.Author.Needs.{needs}
-use Rattle.sound.proofs.Opened.{opened}
+use Rattle.spelling.proofs.Opened.{opened}
 use Rattle.tidy.proofs.Outcome.{tidy-shut, tidy-open}
 use Rattle.scope.specs.Answers.{Done}
 use Rattle.tidy.proofs.call.tidy.Statement.{statement}

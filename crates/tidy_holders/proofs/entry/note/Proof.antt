@@ -1,5 +1,5 @@
 -- `tidy_holders::entry::note` meets its contract. Assumes nothing.
-use Rattle.tidy_holders.proofs.Noted.{entered}
+use Rattle.tidy_holders.proofs.Noting.Noted.{entered}
 use borrow.Author.Needs.{needs}
 use Rattle.tidy_holders.proofs.entry.note.Statement.{statement}
 use Rattle.tidy_holders.proofs.entry.note.Tie as tie

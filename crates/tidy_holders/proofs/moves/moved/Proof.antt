@@ -1,6 +1,5 @@
 -- `tidy_holders::moves::moved` meets its contract. Assumes nothing.
-use Rattle.scope.specs.Rules.{action}
-use Rattle.tidy_holders.proofs.Noted.{none-noted}
+use Rattle.tidy_holders.proofs.Noting.Noted.{none-noted}
 use borrow.Author.Needs.{needs}
 use Rattle.tidy_holders.proofs.moves.moved.Statement.{statement}
 use Rattle.tidy_holders.proofs.moves.moved.Tie as tie

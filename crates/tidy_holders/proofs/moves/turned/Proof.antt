@@ -1,5 +1,5 @@
 -- `tidy_holders::moves::turned` meets its contract. Assumes nothing.
-use Rattle.tidy_holders.proofs.Noted.{turned-noted}
+use Rattle.tidy_holders.proofs.Noting.Noted.{turned-noted}
 use borrow.Author.Needs.{needs}
 use Rattle.tidy_holders.proofs.moves.turned.Statement.{statement}
 use Rattle.tidy_holders.proofs.moves.turned.Tie as tie

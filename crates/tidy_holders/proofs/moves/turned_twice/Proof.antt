@@ -1,5 +1,5 @@
 -- `tidy_holders::moves::turned_twice` meets its contract. Assumes nothing.
-use Rattle.tidy_holders.proofs.Noted.{twice-noted, still-moving}
+use Rattle.tidy_holders.proofs.Noting.Noted.{twice-noted, still-moving}
 use borrow.Author.Needs.{needs}
 use Rattle.tidy_holders.proofs.moves.turned_twice.Statement.{statement}
 use Rattle.tidy_holders.proofs.moves.turned_twice.Tie as tie

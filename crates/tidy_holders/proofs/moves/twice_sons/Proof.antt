@@ -1,5 +1,5 @@
 -- `tidy_holders::moves::twice_sons` meets its contract. Assumes nothing.
-use Rattle.tidy_holders.proofs.Noted.{low-noted}
+use Rattle.tidy_holders.proofs.Noting.Noted.{low-noted}
 use borrow.Author.Needs.{needs}
 use Rattle.tidy_holders.proofs.moves.twice_sons.Statement.{statement}
 use Rattle.tidy_holders.proofs.moves.twice_sons.Tie as tie

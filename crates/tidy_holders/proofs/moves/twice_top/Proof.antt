@@ -1,5 +1,5 @@
 -- `tidy_holders::moves::twice_top` meets its contract. Assumes nothing.
-use Rattle.tidy_holders.proofs.Noted.{top-noted}
+use Rattle.tidy_holders.proofs.Noting.Noted.{top-noted}
 use borrow.Author.Needs.{needs}
 use Rattle.tidy_holders.proofs.moves.twice_top.Statement.{statement}
 use Rattle.tidy_holders.proofs.moves.twice_top.Tie as tie

@@ -2,8 +2,8 @@
 use Prim.Native.Nat.{_+_, _-_}
 use native.Mathlib.Omega.{arith}
 use denote.Ref.{now}
-use Rattle.sound.proofs.Opened.{headed}
-use Rattle.tidy_holders.proofs.Filling.{Filling, root-most, filling-start, filling-sons, filling-on, filling-end}
+use Rattle.spelling.proofs.Opened.{headed}
+use Rattle.tidy_holders.proofs.Noting.Filling.{Filling, root-most, filling-start, filling-sons, filling-on, filling-end}
 use Rattle.tidy_holders.proofs.pass.fill.Statement.{statement}
 use Rattle.tidy_holders.proofs.pass.fill.Tie as tie
 

@@ -1,7 +1,7 @@
 -- `tidy_holders::pass::note_sons` meets its contract. Assumes nothing.
 use mathlib.Core.Path.{_∙_, ap}
 use Rattle.scope.specs.declared.slot.Slot.{Slot}
-use Rattle.tidy_holders.proofs.Noted.{sons-noted}
+use Rattle.tidy_holders.proofs.Noting.Noted.{sons-noted}
 use borrow.Author.Needs.{needs}
 use Rattle.tidy_holders.proofs.pass.note_sons.Statement.{statement}
 use Rattle.tidy_holders.proofs.pass.note_sons.Tie as tie

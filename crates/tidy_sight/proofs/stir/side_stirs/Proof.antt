@@ -1,6 +1,6 @@
 -- `tidy_sight::stir::side_stirs` meets its contract. Assumes nothing.
 use mathlib.Core.Path.{sym}
-use Rattle.words.proofs.Laws.{in-table}
+use Rattle.spelling.proofs.Laws.{in-table}
 use Rattle.tidy_sight.specs.Stirring.{sideStirs}
 use denote.Ref.{now}
 use Rattle.tidy_sight.proofs.Sights.{named}

@@ -4,7 +4,7 @@ use denote.Ref.{now}
 use borrow.Author.Needs.{needs}
 use Rattle.tidy_sight.proofs.Sights.{third-seen, named}
 use Rattle.tidy_sight.specs.Sight.{sightThird}
-use Rattle.words.proofs.Laws.{in-table}
+use Rattle.spelling.proofs.Laws.{in-table}
 use Rattle.tidy_sight.proofs.test.third.Statement.{statement}
 use Rattle.tidy_sight.proofs.test.third.Tie as tie
 

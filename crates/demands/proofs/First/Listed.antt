@@ -1,0 +1,47 @@
+-- Demand 1: every call is accepted, or refused with a listed code, four zeros and every word as it was. Assumes nothing.
+use Prim.Native.Nat.{ℕ}
+use mathlib.Core.Path.{_≡_, refl, sym, ap}
+use mathlib.Core.Bool.{true}
+use mathlib.Core.List.{List}
+use Rattle.scope.specs.Table.{word, changeWord}
+use Rattle.scope.specs.Answers.{Done, codeOf, accepted, refusal}
+use Rattle.scope.specs.Sound.{treeIn}
+use Rattle.scope.specs.Sums.{checkAnswer, totalOf, totalAnswer}
+use Rattle.scope.specs.Worth.{worthOf, worthAnswer}
+use Rattle.scope.specs.Calls.{Call, Start, Check, Find, Post, Amend, Drop, Rank, Total, Worth, Fire, Tidy, answerOf, tableOf}
+use Rattle.scope.specs.declared.answer.Refusal.{Refusal}
+use Rattle.demands.specs.Listed.{codes, among, Answered, accepts, refuses}
+use Rattle.demands.proofs.First.Refusals.{start-answered, whole-answered, tidy-answered, rank-answered, find-answered, post-answered, amend-answered, drop-answered}
+use Rattle.demands.proofs.First.FireRefusals.{fire-answered}
+
+-- DEMAND 1: every call, for any words and arguments
+pub answered : (x : Call) (t : List ℕ) → Answered (codes x) t (record { answer = answerOf x t; words = tableOf x t })
+unfolding answerOf tableOf checkAnswer totalAnswer worthAnswer
+answered Start t = start-answered t
+answered Check t = whole-answered t (λ c. accepted (word t changeWord) 0 0 0) (λ c. refl)
+answered (Find key) t = find-answered t key
+answered (Post key pieces state) t = post-answered t key pieces state
+answered (Amend key pieces state) t = amend-answered t key pieces state
+answered (Drop key) t = drop-answered t key
+answered (Rank r) t = rank-answered t r
+answered (Total K) t = whole-answered t (λ c. accepted (word t changeWord) (totalOf K (treeIn t c)) 0 0) (λ c. refl)
+answered Worth t = whole-answered t (λ c. accepted (word t changeWord) (worthOf (treeIn t c)) 0 0) (λ c. refl)
+answered (Fire rule holder side) t = fire-answered t rule holder side
+answered (Tidy budget) t = tidy-answered t budget
+
+-- so a code that is not 0 comes with four zeros, is listed, and leaves every word
+pub record Refused (x : Call) (t : List ℕ) : Type 0 where
+  pub why : Refusal
+  pub answer : answerOf x t ≡ refusal why
+  pub words : tableOf x t ≡ t
+  pub listed : among (codeOf why) (codes x) ≡ true
+
+says : (x : Call) (t : List ℕ) (d : Done) → d ≡ record { answer = answerOf x t; words = tableOf x t }
+    → Answered (codes x) t d
+    → (d .answer .code ≡ 0 → ⊥) → Refused x t
+says x t d e (accepts z) ne = absurd (ne z)
+says x t d e (refuses why l) ne =
+    record { why = why; answer = ap (λ (y : Done). y .answer) (sym e); words = ap (λ (y : Done). y .words) (sym e); listed = l }
+
+pub refused-is : (x : Call) (t : List ℕ) → (answerOf x t .code ≡ 0 → ⊥) → Refused x t
+refused-is x t = says x t (record { answer = answerOf x t; words = tableOf x t }) refl (answered x t)

@@ -1,0 +1,10 @@
+-- Demand 2: on a sound table as on a sorted list, firings by their guards, tidying in the stated order.
+pub mod Answers
+pub mod Ranks
+pub mod Amending
+pub mod Posting
+pub mod Dropping
+pub mod Firing
+pub mod Enabled
+pub mod Tidying
+pub mod Sequence

@@ -1,0 +1,104 @@
+-- Demand 2: on a sound table amend answers and leaves what it does on the ledger. Assumes nothing.
+use Prim.Native.Nat.{ℕ, _+_}
+use mathlib.Core.Path.{_≡_, refl, sym, _∙_, ap}
+use mathlib.Core.Bool.{true}
+use mathlib.Core.Option.{Option, none, some}
+use mathlib.Core.List.{List}
+use native.Mathlib.Omega.{arith}
+use lib.ListN.{set, length, length-set}
+use lib.Seq.{getD-set-same}
+use lib.Dec.{ltb}
+use Rattle.scope.proofs.Bools.{by-bool}
+use Rattle.scope.specs.Numbers.{rootLink, lastChange}
+use Rattle.scope.specs.Table.{word, changeWord, slotAt, withSlot}
+use Rattle.scope.specs.Fit.{headerOk}
+use Rattle.scope.specs.Tree.{Batch, Tree}
+use Rattle.scope.specs.Sound.{treeIn}
+use Rattle.scope.specs.Answers.{refused, gate}
+use Rattle.scope.specs.Post.{recordOk}
+use Rattle.scope.specs.Amend.{withPieces, amendingAt, amendPlan, amended, amendOf}
+use Rattle.scope.specs.declared.answer.Refusal.{Refusal}
+use Rattle.scope.specs.declared.answer.Refusal.the-variants.{OutOfRange, KeyAbsent, LastChange}
+use Rattle.scope.specs.declared.answer.Gate.the-variants.{Shut, Open}
+use Rattle.scope.specs.declared.side.Link.{Link}
+use Rattle.spelling.specs.Ready.{Sized}
+use Rattle.spelling.specs.Whole.{Whole}
+use Rattle.spelling.proofs.Spell.{tree-in}
+use Rattle.bridge.specs.Leads.{linkAlong}
+use Rattle.tree.specs.Seek.{seek, route, visits, sought}
+use Rattle.bridge.specs.Settled.{Spelled}
+use Rattle.tree.proofs.Keys.Keyed.{amendedTree}
+use Rattle.bridge.proofs.Links.Settles.{amended-whole}
+use Rattle.ledger.specs.Entries.{replace}
+use Rattle.ledger.specs.Ledger.{Ledger, entry, kept, entered, onEntry, amendIn}
+use Rattle.demands.specs.Ledgers.{ledgerOf, AsLedger}
+use Rattle.ledger.specs.OfTree.{entriesOf}
+use Rattle.demands.proofs.Open.{gate-opens}
+use Rattle.demands.proofs.Third.Walks.{walk-tree}
+use Rattle.ledger.proofs.Entries.{mapEntry, amended-entries}
+use Rattle.demands.proofs.Second.Answers.{gate-range, lookup-is}
+
+-- a refusal leaves both as they were
+pub both-refuse : {t : List ℕ} {c : ℕ} → Whole t c → (why : Refusal)
+    → AsLedger (refused t why) c (kept (ledgerOf t c) why)
+both-refuse w why = record { answer = refl; whole = w; ledger = refl }
+
+module _ {t : List ℕ} {c : ℕ} (w : Whole t c) (key pieces state : ℕ) (ok : recordOk key pieces state ≡ true) where
+  abbrev T : Tree
+  T = w .sound .tree
+
+  abbrev L : Ledger
+  L = ledgerOf t c
+
+  abbrev after : Batch → List ℕ
+  after d = set (withSlot t (d .slot) (withPieces (slotAt t (d .slot)) pieces state)) changeWord (word t changeWord + 1)
+
+  module _ (d : Batch) (found : seek key T ≡ some d) where
+    sound-after : Spelled (after d) c (amendedTree key pieces state T)
+    sound-after = amended-whole w key pieces state ok d found (word t changeWord + 1)
+
+    long : length (after d) ≡ length t
+    unfolding withSlot
+    long = simp length-set
+
+    sized-after : Sized (after d) c
+    sized-after = record { room = w .sized .room ∙ sym long; some = w .sized .some; most = w .sized .most }
+
+    change-after : word (after d) changeWord ≡ word t changeWord + 1
+    unfolding withSlot
+    change-after = getD-set-same (withSlot t (d .slot) (withPieces (slotAt t (d .slot)) pieces state)) changeWord (word t changeWord + 1) 0 (simp length-set (omega (arith, w .sized .room)))
+
+    entries-after : entriesOf (treeIn (after d) c) ≡ replace (entry key pieces state) (L .entries)
+    entries-after =
+        ap entriesOf (sound-after .tree) ∙ amended-entries key pieces state T (w .sound .order)
+        ∙ ap (λ (x : Tree). replace (entry key pieces state) (entriesOf x)) (sym (tree-in t c (w .sound)))
+
+    ledger-after : ledgerOf (after d) c
+        ≡ record { entries = replace (entry key pieces state) (L .entries); change = word t changeWord + 1; capacity = c }
+    ledger-after = rw (entries-after, change-after) refl
+
+  walked : (o : Option Batch) (l : Link) (n : ℕ) → seek key T ≡ o
+      → AsLedger (amended t pieces state (amendingAt t (sought o l n))) c
+      (onEntry (mapEntry o) (kept L KeyAbsent) (entered L (replace (entry key pieces state) (L .entries))))
+  unfolding amended amendingAt
+  walked none l n e = both-refuse w KeyAbsent
+  walked (some d) l n e =
+      by-bool (ltb (word t changeWord) lastChange)
+      (λ q. rw q (record {
+        answer = refl;
+        whole = record { sized = sized-after d e; sound = sound-after d e .sound };
+        ledger = ledger-after d e;
+      }))
+      (λ q. rw q (both-refuse w LastChange))
+
+-- AMEND, its slot apart
+pub amend-ledger : {t : List ℕ} {c : ℕ} → Whole t c → (key pieces state : ℕ)
+    → AsLedger (amendOf t key pieces state) c (amendIn key pieces state (ledgerOf t c))
+unfolding amendOf amendPlan amended
+amend-ledger {t} {c} w key pieces state =
+    by-bool (recordOk key pieces state)
+    (λ ok. let opens : gate t (recordOk key pieces state) (λ n. headerOk n t) ≡ Open c = gate-opens _ _ (w .sized) ok (w .sound .header) in
+    rw (opens, ok, ← lookup-is w key, walk-tree w key)
+    (walked w key pieces state ok (seek key (w .sound .tree)) (linkAlong t (route key (w .sound .tree)) rootLink) (visits key (w .sound .tree)) refl))
+    (λ no-ok. let shut : gate t (recordOk key pieces state) (λ n. headerOk n t) ≡ Shut OutOfRange = gate-range _ _ (w .sized) no-ok in
+    rw (shut, no-ok) (both-refuse w OutOfRange))

@@ -1,0 +1,1 @@
+// Words that spell a tree: sizes and places, what a write leaves, the soundness test. Laws of the definitions, no code.

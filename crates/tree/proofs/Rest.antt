@@ -1,0 +1,3 @@
+-- Trees at rest: balance and height.
+pub mod Quiet
+pub mod Height

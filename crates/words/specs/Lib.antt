@@ -1,2 +1,0 @@
--- What the functions of `words` ask of a table.
-pub mod Ready
