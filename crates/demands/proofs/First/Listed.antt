@@ -16,7 +16,7 @@ use Rattle.demands.proofs.First.FireRefusals.{fire-answered}
 
 -- DEMAND 1: every call, for any words and arguments
 pub answered : (x : Call) (t : List ℕ) → Answered (codes x) t (record { answer = answerOf x t; words = tableOf x t })
-unfolding answerOf tableOf checkAnswer totalAnswer worthAnswer
+unfolding checkAnswer totalAnswer worthAnswer
 answered Start t = start-answered t
 answered Check t = whole-answered t (λ c. accepted (word t changeWord) 0 0 0) (λ c. refl)
 answered (Find key) t = find-answered t key

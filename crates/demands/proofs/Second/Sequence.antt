@@ -3,7 +3,7 @@ use Prim.Native.Nat.{ℕ}
 use mathlib.Core.Path.{_≡_, refl, _∙_, ap}
 use mathlib.Core.Option.{some}
 use mathlib.Core.List.{List, [], _∷_}
-use Rattle.scope.specs.Calls.{Call, Start, Check, Find, Post, Amend, Drop, Rank, Total, Worth, Fire, Tidy, answerOf, tableOf, answers, after}
+use Rattle.scope.specs.Calls.{Call, Start, Check, Find, Post, Amend, Drop, Rank, Total, Worth, Fire, Tidy, tableOf, answers, after}
 use Rattle.scope.specs.declared.answer.Answer.{Answer}
 use Rattle.spelling.specs.Ready.{Sized}
 use Rattle.spelling.specs.Whole.{Whole}
@@ -22,14 +22,14 @@ told e = ap (λ (a : Answer). some a) e
 
 -- start asks for nothing but the length
 start-same : {t : List ℕ} {c : ℕ} → Sized t c → SameCall Start t c
-unfolding apart answerOf tableOf ledgerAnswer ledgerAfter
+unfolding apart ledgerAnswer ledgerAfter
 start-same z =
     let s = start-ledger z in
     record { answer = told (s .answer); whole = s .whole; ledger = s .ledger }
 
 -- one call
 pub call-ledger : {t : List ℕ} {c : ℕ} → Whole t c → (x : Call) → SameCall x t c
-unfolding apart answerOf tableOf ledgerAnswer ledgerAfter
+unfolding apart ledgerAnswer ledgerAfter
 call-ledger w Start = start-same (w .sized)
 call-ledger w Check = record { answer = told (check-whole w); whole = w; ledger = refl }
 call-ledger w (Find key) = record { answer = told (find-ledger w key); whole = w; ledger = refl }

@@ -9,7 +9,7 @@ use Rattle.scope.specs.Table.{word, changeWord}
 use Rattle.scope.specs.Answers.{Done, accepted}
 use Rattle.scope.specs.Fire.{aimed, firePlan, fired, fireOf}
 use Rattle.scope.specs.Tidy.{nodesAt, linkTo, nextOf, firedAt, tidyFrom, tidied, tidyOf, tidyTable}
-use Rattle.scope.specs.Calls.{answerOf, tableOf, answers, after}
+use Rattle.scope.specs.Calls.{answers, after}
 use Rattle.scope.specs.declared.outcome.Next.{Next}
 use Rattle.scope.specs.declared.outcome.Next.the-variants.{At, Nothing}
 use Rattle.scope.specs.declared.outcome.Firing.the-variants.{Fire}
@@ -91,7 +91,7 @@ more-spent (at-rest e) = at-rest e
 -- WHAT THE FIRINGS COME TO
 pub firings-run : {t t′ : List ℕ} {c budget : ℕ} {xs : List Trial} → Whole t c → Firings c t budget xs t′
     → Ran t c budget xs t′
-unfolding answers after answerOf tableOf
+unfolding answers after
 firings-run w (rests e) =
     record { table = refl; replies = refl; most = omega arith; stopped = at-rest e; whole = w; ledger = refl }
 firings-run w spent =

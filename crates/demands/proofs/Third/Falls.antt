@@ -10,7 +10,7 @@ use Rattle.scope.specs.Numbers.{mostHeight}
 use Rattle.scope.specs.Answers.{Done, codeOf}
 use Rattle.scope.specs.Worth.{worthOf, worthAnswer}
 use Rattle.scope.specs.Fire.{fireOf, fireAnswer, fireTable}
-use Rattle.scope.specs.Calls.{answerOf, tableOf, answers, after}
+use Rattle.scope.specs.Calls.{answers, after}
 use Rattle.spelling.specs.Whole.{Whole}
 use Rattle.spelling.proofs.Spell.{tree-in}
 use Rattle.tree.proofs.Worth.Fall.{worth-falls}
@@ -49,7 +49,7 @@ worth-falls-at {t} w rule holder side e =
 -- NO MORE ARE ACCEPTED THAN THE WORTH, in any list of attempts; what is left of it is the worth at the end
 pub spends : {t : List ℕ} {c : ℕ} → Whole t c → (xs : List Trial)
     → acceptedIn (answers (fires xs) t) + worthAnswer (after (fires xs) t) .value ≤ worthAnswer t .value
-unfolding answers after acceptedIn answerOf tableOf
+unfolding answers after acceptedIn
 spends w [] = omega arith
 spends {t} w (x ∷ xs) =
     let o = one w (fireOf t (x .rule) (x .holder) (x .side)) (fire-done w (x .rule) (x .holder) (x .side)) in
