@@ -1,6 +1,4 @@
-// Sums over a sound table: the true height and the total, each by a walk down from the root.
-// The height's walk goes to both sides of every slot. The total's leaves out a right side where no key can count: where
-// a slot's own key is too large, all keys to its right are too.
+// Sums over a sound table: the true height and the total, each by a walk down from the root to both sides of every slot.
 // A walk is two functions, at a slot and at a link, which may be empty. It starts at the root's slot: entered there,
 // the test of a link is compiled into the slot above it, and an empty link costs no call.
 use scope::Answer;
@@ -13,7 +11,7 @@ ghost use Rattle.scope.specs.Tree.{over, trueHeight};
 ghost use Rattle.scope.specs.Sound.{treeIn};
 ghost use Rattle.scope.specs.Sums.{totalOf, totalAnswer};
 ghost use Rattle.spelling.specs.Whole.{Whole};
-ghost use Rattle.total.specs.Hangs.{Hangs, Says, forkAt, heightAnswer, Adding, totalOn};
+ghost use Rattle.total.specs.Hangs.{Hangs, Says, forkAt, heightAnswer, Adding, countedOf, totalOn};
 
 // A slot with its two sons.
 pub struct Fork {
@@ -80,6 +78,17 @@ pub fn height(t: &[u32]) -> Answer
     }
 }
 
+// What a record counts of a total: its pieces, if its key is at most `key`.
+pub fn counted(s: Slot, key: u32) -> u64
+    ensures { λ r. ⌜ r ≡ countedOf key (s .key) (s .pieces) ⌝ }
+{
+    if s.key <= key {
+        words::long(s.pieces)
+    } else {
+        0
+    }
+}
+
 // Adds to a sum the pieces of all records with a key of at most `key`, in slot x and what hangs below it.
 pub fn total_at(t: &[u32], more: usize, x: usize, key: u32, sum: u64) -> u64
     requires { ⌜ (1 ≤ x) × Adding (now t) more x sum ⌝ }
@@ -89,11 +98,7 @@ pub fn total_at(t: &[u32], more: usize, x: usize, key: u32, sum: u64) -> u64
     let less = more - 1;
     let slot = f.slot;
     let a = total_under(t, less, f.left, key, sum);
-    if slot.key <= key {
-        total_under(t, less, f.right, key, a + words::long(slot.pieces))
-    } else {
-        a
-    }
+    total_under(t, less, f.right, key, a + counted(slot, key))
 }
 
 // The same at a link, which may be empty.
