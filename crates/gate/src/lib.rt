@@ -6,6 +6,7 @@ pub use call::accept;
 pub use call::capacity;
 pub use call::enter;
 pub use call::refuse;
+pub use call::told;
 pub use tests::blank;
 pub use tests::fit;
 pub use tests::header_ok;

@@ -7,15 +7,17 @@ use native.Mathlib.Omega.{arith}
 use lib.Dec.{leb, eqb}
 use borrow.Author.Tests.{leb-true}
 use Rattle.scope.proofs.Bools.{and-l, and-r}
+use Rattle.scope.specs.Numbers.{mostSlots}
 use Rattle.scope.specs.Table.{slotAt}
 use Rattle.scope.specs.Fit.{stateOk, piecesOk, fitSlot}
 use Rattle.scope.specs.Tree.{Tree, leaf, node, size, trueHeight, over}
 use Rattle.scope.specs.Sound.{Spells, batchAt}
 use Rattle.scope.specs.Sums.{totalOf}
 use Rattle.scope.specs.declared.slot.Slot.{Slot}
-use Rattle.total.specs.declared.Fork.{Fork}
-use Rattle.total.specs.Hangs.{Says, Adding, countedOf, totalOn}
-use Rattle.total.proofs.Down.{Forked, said-at, says-leaf, says-fork}
+use Rattle.fork.specs.declared.Fork.{Fork}
+use Rattle.fork.specs.Hangs.{Says}
+use Rattle.total.specs.Adding.{Adding, countedOf, totalOn}
+use Rattle.fork.proofs.Down.{Forked, said-at, says-leaf, says-fork}
 
 pub height-most : (T : Tree) → trueHeight T ≤ size T
 unfolding trueHeight size
@@ -49,7 +51,7 @@ total-most t c K x (node d a b l r) p =
 
 module _ {t : List ℕ} {more x : ℕ} {f : Fork} (d : Forked t more x f) where
   module _ {a b : ℕ} (sa : Says t (f .left) trueHeight a) (sb : Says t (f .right) trueHeight b) where
-    pub heights-few : (a ≤ 4095) × (b ≤ 4095)
+    pub heights-few : (a ≤ mostSlots) × (b ≤ mostSlots)
     heights-few =
         omega (
           arith,

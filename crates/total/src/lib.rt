@@ -6,33 +6,17 @@ use scope::Gate;
 use scope::Slot;
 ghost use mathlib.Core.Path.{_≡_};
 ghost use Prim.Native.Nat.{_+_, _≤_, _<_};
-ghost use Rattle.scope.specs.Table.{InTable};
+ghost use Rattle.scope.specs.Numbers.{mostSlots};
 ghost use Rattle.scope.specs.Tree.{over, trueHeight};
 ghost use Rattle.scope.specs.Sound.{treeIn};
 ghost use Rattle.scope.specs.Sums.{totalOf, totalAnswer};
 ghost use Rattle.spelling.specs.Whole.{Whole};
-ghost use Rattle.total.specs.Hangs.{Hangs, Says, forkAt, heightAnswer, Adding, countedOf, totalOn};
-
-// A slot with its two sons.
-pub struct Fork {
-    pub slot: Slot,
-    pub left: usize,
-    pub right: usize,
-}
-
-pub fn fork_at(t: &[u32], x: usize) -> Fork
-    requires { ⌜ InTable (now t) x ⌝ }
-    ensures { λ r. ⌜ r ≡ forkAt (now (t .entry)) x ⌝ }
-{
-    let slot = words::slot_at(t, x);
-    let left = words::wide(slot.left);
-    let right = words::wide(slot.right);
-    Fork { slot, left, right }
-}
+ghost use Rattle.fork.specs.Hangs.{Hangs, Says};
+ghost use Rattle.total.specs.Adding.{heightAnswer, Adding, countedOf, totalOn};
 
 // One more than the larger of two heights.
 pub fn over(a: usize, b: usize) -> usize
-    requires { ⌜ (a ≤ 4095) × (b ≤ 4095) ⌝ }
+    requires { ⌜ (a ≤ mostSlots) × (b ≤ mostSlots) ⌝ }
     ensures { λ r. ⌜ r ≡ over a b ⌝ }
 {
     if a < b { b + 1 } else { a + 1 }
@@ -43,7 +27,7 @@ pub fn height_at(t: &[u32], more: usize, x: usize) -> usize
     requires { ⌜ (1 ≤ x) × Hangs (now t) more x ⌝ }
     ensures { λ r. ⌜ Says (now (t .entry)) x trueHeight r ⌝ }
 {
-    let f = fork_at(t, x);
+    let f = fork::fork_at(t, x);
     let less = more - 1;
     let a = height_under(t, less, f.left);
     let b = height_under(t, less, f.right);
@@ -74,7 +58,7 @@ pub fn height(t: &[u32]) -> Answer
 {
     match sound::enter_sound(t, true) {
         Gate::Shut(why) => gate::refuse(why),
-        Gate::Open(c) => sound::told(t, words::size(height_in(t, c))),
+        Gate::Open(c) => gate::told(t, words::size(height_in(t, c))),
     }
 }
 
@@ -94,7 +78,7 @@ pub fn total_at(t: &[u32], more: usize, x: usize, key: u32, sum: u64) -> u64
     requires { ⌜ (1 ≤ x) × Adding (now t) more x sum ⌝ }
     ensures { λ r. ⌜ Says (now (t .entry)) x (totalOn sum key) r ⌝ }
 {
-    let f = fork_at(t, x);
+    let f = fork::fork_at(t, x);
     let less = more - 1;
     let slot = f.slot;
     let a = total_under(t, less, f.left, key, sum);
@@ -133,6 +117,6 @@ pub fn total(t: &[u32], key: u32) -> Answer
 {
     match sound::enter_sound(t, true) {
         Gate::Shut(why) => gate::refuse(why),
-        Gate::Open(c) => sound::told(t, total_in(t, c, key)),
+        Gate::Open(c) => gate::told(t, total_in(t, c, key)),
     }
 }

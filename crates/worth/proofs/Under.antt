@@ -11,9 +11,9 @@ use Rattle.scope.specs.declared.slot.Slot.{Slot}
 use Rattle.spelling.proofs.Laws.{fit-left, fit-right, header-count}
 use Rattle.spelling.specs.Whole.{Whole}
 use Rattle.spelling.proofs.Spell.{tree-in}
-use Rattle.total.specs.declared.Fork.{Fork}
-use Rattle.total.specs.Hangs.{Hangs, Says}
-use Rattle.total.proofs.Down.{Forked, said-at, says-leaf, says-fork, said}
+use Rattle.fork.specs.declared.Fork.{Fork}
+use Rattle.fork.specs.Hangs.{Hangs, Says}
+use Rattle.fork.proofs.Down.{Forked, said-at, says-leaf, says-fork, said}
 use Rattle.worth.specs.Weight.{weightOf, loadOf, joined, topOf, Laden, Bearable}
 use Rattle.worth.proofs.Weight.{weight-leaf, weight-node, weight-most, weight-worth}
 

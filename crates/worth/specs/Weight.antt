@@ -4,7 +4,7 @@ use mathlib.Core.List.{List}
 use Rattle.scope.specs.Tree.{Tree, leaf, node, size, over}
 use Rattle.scope.specs.Worth.{gap, negOf, posOf, NEG, POS, BAL, RBAL}
 use Rattle.scope.specs.declared.slot.Slot.{Slot}
-use Rattle.total.specs.Hangs.{Hangs}
+use Rattle.fork.specs.Hangs.{Hangs}
 
 -- the four sums, the carry of the tree's own top counted too
 unfoldable pub weightOf : ℕ → ℕ → Tree → ℕ

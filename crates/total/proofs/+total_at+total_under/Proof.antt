@@ -4,7 +4,7 @@ use native.Mathlib.Omega.{arith}
 use borrow.Author.Needs.{needs}
 use borrow.Fn.Kinds.{In}
 use borrow.Fn.PlainCycle.{Measures, is, falls, and}
-use Rattle.total.proofs.Down.{Forked, in-reach, forked}
+use Rattle.fork.proofs.Down.{Forked, in-reach, forked}
 use Rattle.total.proofs.Walks.{nothing-added, left-room, right-room, total-here}
 use Rattle.total.proofs.total_at.Reads as at
 use Rattle.total.proofs.total_at.Kinds as at-kinds
@@ -12,7 +12,7 @@ use Rattle.total.proofs.+total_at+total_under.Lts-total_at as at-lts
 use Rattle.total.proofs.total_under.Reads as under
 use Rattle.total.proofs.total_under.Kinds as under-kinds
 use Rattle.total.proofs.+total_at+total_under.Lts-total_under as under-lts
-use Rattle.total.proofs.fork_at.Reads as fork-at-reads
+use Rattle.fork.proofs.fork_at.Reads as fork-at-reads
 use Rattle.total.proofs.counted.Reads as counted-reads
 use Rattle.total.proofs.+total_at+total_under.{statement}
 use Rattle.total.proofs.+total_at+total_under.Tie.{close}

@@ -1,8 +1,8 @@
 -- `total::total_in` meets its contract. Assumes nothing.
 use native.Mathlib.Omega.{arith}
 use Rattle.scope.specs.Sums.{totalOf}
-use Rattle.total.specs.Hangs.{totalOn}
-use Rattle.total.proofs.Down.{rooted, said, says-leaf}
+use Rattle.total.specs.Adding.{totalOn}
+use Rattle.fork.proofs.Down.{rooted, said, says-leaf}
 use borrow.Author.Needs.{needs}
 use Rattle.total.proofs.total_in.Statement.{statement}
 use Rattle.total.proofs.total_in.Tie as tie

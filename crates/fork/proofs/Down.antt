@@ -4,6 +4,7 @@ use mathlib.Core.Path.{_≡_, refl, sym, ap, _∙_}
 use mathlib.Core.Bool.{true}
 use mathlib.Core.List.{List}
 use native.Mathlib.Omega.{arith}
+use Rattle.scope.specs.Numbers.{mostSlots}
 use Rattle.scope.specs.Table.{word, rootWord, countWord, slotAt, InTable}
 use Rattle.scope.specs.Fit.{fitSlot}
 use Rattle.scope.specs.Tree.{Tree, leaf, node, size}
@@ -11,13 +12,13 @@ use Rattle.scope.specs.Sound.{Spells, batchAt, treeIn}
 use Rattle.spelling.proofs.Laws.{in-table, fit-left, fit-right, header-root, header-count}
 use Rattle.spelling.specs.Whole.{Whole}
 use Rattle.spelling.proofs.Spell.{unique, tree-in}
-use Rattle.total.specs.declared.Fork.{Fork}
-use Rattle.total.specs.Hangs.{Hangs, Says, forkAt}
+use Rattle.fork.specs.declared.Fork.{Fork}
+use Rattle.fork.specs.Hangs.{Hangs, Says, forkAt}
 
 -- the slot at link x with what hangs below it
 pub record Forked (t : List ℕ) (more x : ℕ) (f : Fork) : Type 0 where
   pub some : 1 ≤ more
-  pub most : more ≤ 4095
+  pub most : more ≤ mostSlots
   pub c : ℕ
   pub slot : f .slot ≡ slotAt t x
   pub fit : fitSlot c (f .slot) ≡ true
