@@ -7,7 +7,9 @@ use scope::Slots;
 ghost use mathlib.Core.Path.{_≡_};
 ghost use Prim.Native.Nat.{_+_, _≤_, _<_};
 ghost use Rattle.scope.specs.Sound.{treeIn};
-ghost use Rattle.scope.specs.Sums.{rankOf, ranked, rankAnswer};
+ghost use Rattle.scope.specs.Sums.{rankOf, ranked};
+ghost use Rattle.scope.specs.Calls.{Promise};
+ghost use Rattle.scope.specs.Calls as calls;
 ghost use Rattle.spelling.specs.Ready.{Headed};
 ghost use Rattle.spelling.specs.Whole.{Whole};
 ghost use Rattle.fork.specs.Hangs.{Hangs};
@@ -84,7 +86,7 @@ pub fn ranked(t: &[u32], found: Rank) -> Answer
 
 // rank: the slot of the r-th smallest key.
 pub fn rank(t: &[u32], r: u32) -> Answer
-    ensures { λ a. ⌜ a ≡ rankAnswer (now (t .entry)) r ⌝ }
+    ensures { λ a. ⌜ Promise (calls.Rank r) (now (t .entry)) a (now (t .entry)) ⌝ }
 {
     match sound::enter_sound(t, r != 0) {
         Gate::Shut(why) => gate::refuse(why),

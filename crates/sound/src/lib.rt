@@ -10,7 +10,8 @@ ghost use Prim.Native.Nat.{_≤_};
 ghost use Rattle.scope.specs.Numbers.{mostSlots};
 ghost use Rattle.scope.specs.Table.{word, InTable};
 ghost use Rattle.scope.specs.Sound.{soundTable};
-ghost use Rattle.scope.specs.Sums.{soundGate, checkAnswer};
+ghost use Rattle.scope.specs.Sums.{soundGate};
+ghost use Rattle.scope.specs.Calls.{Check, Promise};
 ghost use Rattle.spelling.specs.Ready.{Sized};
 ghost use Rattle.sound.specs.Scan.{inPlace, settledAt, Looking, Scanning, Visited, Scanned, scanOf, RestIs};
 
@@ -185,7 +186,7 @@ pub fn enter_sound(t: &[u32], in_range: bool) -> Gate
 
 // check: whether the table is sound.
 pub fn check(t: &[u32]) -> Answer
-    ensures { λ r. ⌜ r ≡ checkAnswer (now (t .entry)) ⌝ }
+    ensures { λ r. ⌜ Promise Check (now (t .entry)) r (now (t .entry)) ⌝ }
 {
     match enter_sound(t, true) {
         Gate::Shut(why) => gate::refuse(why),

@@ -9,7 +9,8 @@ ghost use Prim.Native.Nat.{_+_, _≤_, _<_};
 ghost use Rattle.scope.specs.Numbers.{mostSlots};
 ghost use Rattle.scope.specs.Tree.{over, trueHeight};
 ghost use Rattle.scope.specs.Sound.{treeIn};
-ghost use Rattle.scope.specs.Sums.{totalOf, totalAnswer};
+ghost use Rattle.scope.specs.Sums.{totalOf};
+ghost use Rattle.scope.specs.Calls.{Total, Promise};
 ghost use Rattle.spelling.specs.Whole.{Whole};
 ghost use Rattle.fork.specs.Hangs.{Hangs, Says};
 ghost use Rattle.total.specs.Adding.{heightAnswer, Adding, countedOf, totalOn};
@@ -113,7 +114,7 @@ pub fn total_in(t: &[u32], c: usize, key: u32) -> u64
 
 // total: the pieces of all records with a key of at most `key`.
 pub fn total(t: &[u32], key: u32) -> Answer
-    ensures { λ r. ⌜ r ≡ totalAnswer (now (t .entry)) key ⌝ }
+    ensures { λ r. ⌜ Promise (Total key) (now (t .entry)) r (now (t .entry)) ⌝ }
 {
     match sound::enter_sound(t, true) {
         Gate::Shut(why) => gate::refuse(why),

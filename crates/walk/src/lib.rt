@@ -9,7 +9,8 @@ use scope::SlotsIs;
 use scope::Walk;
 ghost use mathlib.Core.Path.{_≡_};
 ghost use lib.ListN.{length, replicate};
-ghost use Rattle.scope.specs.Find.{startAnswer, startTable, foundIn, findAnswer};
+ghost use Rattle.scope.specs.Find.{foundIn};
+ghost use Rattle.scope.specs.Calls.{Start, Find, Promise};
 ghost use Rattle.spelling.specs.Ready.{Sized, Ready};
 ghost use Rattle.walk.specs.Walked.{Walked, Inside, wayOf};
 
@@ -80,7 +81,7 @@ pub fn found(t: &[u32], c: usize, w: Walk) -> Answer
 
 // find: the record of a key.
 pub fn find(t: &[u32], key: u32) -> Answer
-    ensures { λ r. ⌜ r ≡ findAnswer (now (t .entry)) key ⌝ }
+    ensures { λ r. ⌜ Promise (Find key) (now (t .entry)) r (now (t .entry)) ⌝ }
 {
     match gate::enter(t, key != 0) {
         Gate::Shut(why) => gate::refuse(why),
@@ -101,7 +102,7 @@ pub fn clear(t: &mut [u32])
 
 // start: an empty table.
 pub fn start(t: &mut [u32]) -> Answer
-    ensures { λ r. ⌜ (r ≡ startAnswer (now (t .entry))) × (now (t .exit) ≡ startTable (now (t .entry))) ⌝ }
+    ensures { λ r. ⌜ Promise Start (now (t .entry)) r (now (t .exit)) ⌝ }
 {
     match gate::capacity(t.len()) {
         SlotsIs::Outside => gate::refuse(Refusal::WrongLength),

@@ -8,7 +8,8 @@ ghost use Prim.Native.Nat.{_+_, _-_, _*_, _≤_, _<_};
 ghost use Rattle.scope.specs.Numbers.{mostSlots};
 ghost use Rattle.scope.specs.Tree.{over};
 ghost use Rattle.scope.specs.Sound.{treeIn};
-ghost use Rattle.scope.specs.Worth.{gap, worthOf, worthAnswer};
+ghost use Rattle.scope.specs.Worth.{gap, worthOf};
+ghost use Rattle.scope.specs.Calls.{Worth, Promise};
 ghost use Rattle.spelling.specs.Whole.{Whole};
 ghost use Rattle.fork.specs.Hangs.{Hangs, Says};
 ghost use Rattle.worth.specs.Weight.{ownWeight, loadOf, joined, topOf, Light, Laden, Bearable, Rooted};
@@ -125,7 +126,7 @@ pub fn worth_in(t: &[u32], c: usize) -> u64
 
 // worth: how far the registers are from those of a balanced tree.
 pub fn worth(t: &[u32]) -> Answer
-    ensures { λ r. ⌜ r ≡ worthAnswer (now (t .entry)) ⌝ }
+    ensures { λ r. ⌜ Promise Worth (now (t .entry)) r (now (t .entry)) ⌝ }
 {
     match sound::enter_sound(t, true) {
         Gate::Shut(why) => gate::refuse(why),

@@ -1,5 +1,5 @@
 -- `walk::find` meets its contract. Assumes nothing.
-use mathlib.Core.Path.{_∙_, sym}
+use mathlib.Core.Path.{refl, _∙_, sym}
 use borrow.Author.Needs.{needs}
 use Rattle.spelling.proofs.Laws.{gate-ready}
 use Rattle.scope.specs.Find.{findAnswer}
@@ -28,13 +28,13 @@ found-requires c κs =
 
 returns : tie.Need-returns
 unfolding findAnswer
-returns c = let b = c .before .before in simp (sym (b .before .before .enter .ensures), b .why .given .1, sym (c .refuse .ensures))
+returns c = let b = c .before .before in simp (sym (b .before .before .enter .ensures), b .why .given .1, sym (c .refuse .ensures)) (refl, refl)
 
 returns-2 : tie.Need-returns-2
 unfolding findAnswer
 returns-2 c =
     let b = c .before .before .before in
-    simp (sym (b .before .before .enter .ensures), b .c .given .1, sym (c .before .search .ensures .is), sym (c .found .ensures))
+    simp (sym (b .before .before .enter .ensures), b .c .given .1, sym (c .before .search .ensures .is), sym (c .found .ensures)) (refl, refl)
 
 pub find-spec : {M : Type 1} → statement M
 find-spec =
