@@ -5,10 +5,10 @@ use mathlib.Core.Bool.{Bool, true}
 use mathlib.Core.List.{List}
 use native.Mathlib.Omega.{arith}
 use Rattle.scope.specs.Table.{word, changeWord}
-use Rattle.scope.specs.Sound.{soundTable}
+use Rattle.scope.specs.Sound.{soundTable, treeIn}
 use Rattle.scope.specs.Answers.{accepted, gate, answering, codeOf}
 use Rattle.scope.specs.Sums.{soundGate, checkAnswer}
-use Rattle.scope.specs.Worth.{worthOf, worthAnswer}
+use Rattle.scope.specs.Worth.{worthAnswer}
 use Rattle.scope.specs.declared.answer.Refusal.{Refusal}
 use Rattle.scope.specs.declared.answer.Refusal.the-variants.{WrongLength, OutOfRange, Damaged, KeyPresent, KeyAbsent, NoFreeSlot, LastChange, GuardFails, TooHigh, Unreadable}
 use Rattle.scope.specs.declared.answer.Gate.{Gate}
@@ -19,6 +19,25 @@ use Rattle.spelling.proofs.Exact.{sound-test}
 use Rattle.spelling.proofs.Spell.{tree-in}
 use Rattle.spelling.proofs.Opened.{opened}
 use Rattle.bridge.proofs.Firing.Calls.{sized-slots}
+use Rattle.demands.specs.Fires.{worthIn}
+
+-- a sound table with the tree that its words spell
+abbrev pub own-tree : {t : List ℕ} {c : ℕ} → Whole t c → Whole t c
+own-tree {t} {c} w =
+    let s = w .sound in
+    let e : treeIn t c ≡ s .tree = tree-in t c s in
+    record {
+      sized = w .sized;
+      sound = record {
+        header = s .header;
+        tree = treeIn t c;
+        reached = rw e (s .reached);
+        once = rw e (s .once);
+        count = rw e (s .count);
+        order = rw e (s .order);
+        rest = rw e (s .rest);
+      };
+    }
 
 -- a gate whose three tests pass is open
 pub gate-opens : {t : List ℕ} {c : ℕ} (good : Bool) (whole : ℕ → Bool) → Sized t c → good ≡ true → whole c ≡ true
@@ -61,7 +80,7 @@ pub check-sounds : (t : List ℕ) → checkAnswer t .code ≡ 0 → Sounds t
 unfolding checkAnswer
 check-sounds t e = checked t (soundGate t true) refl e
 
--- the call worth tells the tree's
-pub worth-whole : {t : List ℕ} {c : ℕ} (w : Whole t c) → worthAnswer t .value ≡ worthOf (w .sound .tree)
+-- the call worth tells the worth of the tree that the words spell
+pub worth-told : {t : List ℕ} {c : ℕ} → Whole t c → worthAnswer t ≡ accepted (word t changeWord) (worthIn t c) 0 0
 unfolding worthAnswer
-worth-whole {t} {c} w = rw (sound-opens true w refl, tree-in t c (w .sound)) refl
+worth-told w = rw (sound-opens true w refl) refl

@@ -4,6 +4,7 @@ pub mod Ranks
 pub mod Amending
 pub mod Posting
 pub mod Dropping
+pub mod Exact
 pub mod Firing
 pub mod Enabled
 pub mod Tidying

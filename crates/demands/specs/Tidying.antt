@@ -5,23 +5,19 @@ use mathlib.Core.Bool.{cond}
 use mathlib.Core.List.{List, [], _∷_, map}
 use lib.ListN.{length}
 use Rattle.scope.specs.Table.{word, changeWord}
-use Rattle.scope.specs.Answers.{Done, accepted}
-use Rattle.scope.specs.Fire.{fireOf}
+use Rattle.scope.specs.Answers.{accepted}
 use Rattle.scope.specs.Tidy.{linkTo, nextOf, quiet, tidyAnswer, tidyTable}
 use Rattle.scope.specs.Calls.{answers, after}
 use Rattle.scope.specs.declared.outcome.Next.the-variants.{At, Nothing}
 use Rattle.spelling.specs.Whole.{Whole}
-use Rattle.bridge.specs.Due.{Due}
-use Rattle.demands.specs.Fires.{Trial, fires}
+use Rattle.bridge.specs.Due.{Due, NotAfter}
+use Rattle.demands.specs.Fires.{Trial, tried, Accepted, fires}
 use Rattle.demands.specs.Ledgers.{ledgerOf}
 use Rattle.bridge.specs.Leads.{sideNumber}
 
 -- the numbers of rule n at slot v, which hangs at a link of the table
 abbrev pub trialAt : List ℕ → ℕ → ℕ → ℕ → Trial
 trialAt t c v n = record { rule = n; holder = linkTo t c v .holder; side = sideNumber (linkTo t c v .side) }
-
-abbrev pub tried : List ℕ → Trial → Done
-tried t x = fireOf t (x .rule) (x .holder) (x .side)
 
 -- a call of fire that names a rule which is due at a slot, and the link where that slot hangs
 pub record DueTrial (t : List ℕ) (c : ℕ) (x : Trial) : Type 0 where

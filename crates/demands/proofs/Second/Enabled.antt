@@ -34,8 +34,8 @@ use Rattle.bridge.proofs.Resting.Dues.{Fires, fires-so}
 use Rattle.bridge.proofs.Resting.Meets.{v-some, due-meets}
 use Rattle.bridge.specs.Due.{NotAfter}
 use Rattle.bridge.proofs.Resting.Searches.{next-first}
-use Rattle.demands.specs.Fires.{Trial}
-use Rattle.demands.specs.Tidying.{tried, DueTrial}
+use Rattle.demands.specs.Fires.{Trial, tried, Accepted}
+use Rattle.demands.specs.Tidying.{DueTrial}
 use Rattle.demands.proofs.Open.{some-code}
 
 -- the numbers of a link are its own

@@ -21,8 +21,8 @@ use Rattle.bridge.proofs.Resting.Meets.{v-some, due-meets, due-fires}
 use Rattle.bridge.specs.Due.{Due}
 use Rattle.bridge.proofs.Resting.Searches.{next-due}
 use Rattle.ledger.specs.Ledger.{Ledger}
-use Rattle.demands.specs.Fires.{Trial}
-use Rattle.demands.specs.Tidying.{trialAt, tried, Firings, rests, spent, next, Stopped, all-spent, at-rest, Ran, Tidies}
+use Rattle.demands.specs.Fires.{Trial, tried}
+use Rattle.demands.specs.Tidying.{trialAt, Firings, rests, spent, next, Stopped, all-spent, at-rest, Ran, Tidies}
 use Rattle.demands.proofs.Open.{sound-opens}
 use Rattle.demands.proofs.Third.Stuck.{link-known}
 use Rattle.demands.proofs.Second.Firing.{fire-ledger}
@@ -76,7 +76,7 @@ step : {left : ℕ} {t : List ℕ} {c made : ℕ} → Whole t c → (x : Next) �
 step w Nothing e again = none-more e
 step {left} {t} {c} w (At v n) e again =
     let x = trialAt t c v n in
-    let s = fire-ledger w (x .rule) (x .holder) (x .side) in
+    let s = fire-ledger w x in
     one-more w v n e (again (firedAt t c v n) (rw (next-fires w v n e) at (s .whole)))
 
 run : (left : ℕ) {t : List ℕ} {c : ℕ} (made : ℕ) → Whole t c → Run t c left made
@@ -98,7 +98,7 @@ firings-run w spent =
     record { table = refl; replies = refl; most = omega arith; stopped = all-spent refl; whole = w; ledger = refl }
 firings-run {t} {t′} {c} w (next {xs = xs} v n e a f) =
     let x = trialAt t c v n in
-    let s = fire-ledger w (x .rule) (x .holder) (x .side) in
+    let s = fire-ledger w x in
     let r = firings-run (s .whole) f in
     let same : word (tried t x .words) changeWord ≡ word t changeWord = ap (λ (l : Ledger). l .change) (s .ledger) in
     record {
