@@ -7,7 +7,7 @@ use mathlib.Core.List.{List, [], _∷_, _++_, map, map-append, append-nil}
 use native.Mathlib.Omega.{arith}
 use lib.ListN.{length, length-map, length-append}
 use lib.Dec.{eqb, ltb}
-use borrow.Author.Tests.{eq-eqb, ne-eqb, eqb-true, ltb-true, ltb-false}
+use borrow.Author.Tests.{eq-eqb, ne-eqb, eqb-true, ltb-true, ltb-false, le-ltb}
 use Rattle.scope.proofs.Bools.{by-bool}
 use Rattle.scope.specs.Tree.{Batch, Tree, leaf, node, size, inOrder, Below, Above, Ordered}
 use Rattle.scope.specs.Sums.{totalOf}
@@ -148,9 +148,6 @@ entries-size (node d a b l r) =
     ap length (entries-node d a b l r) ∙ length-append (entriesOf l) (entryOf d ∷ entriesOf r)
     ∙ omega (arith, entries-size l, entries-size r)
 
-pub not-less : (a b : ℕ) → b ≤ a → ltb a b ≡ false
-not-less a b h = by-bool (ltb a b) (λ e. absurd (omega (arith, ltb-true a b e))) (λ e. e)
-
 -- what holds of every key of a tree holds of every stamp of its list
 pub each-key : (P : ℕ → Type 0) (Q : Tree → Type 0)
     → ((d : Batch) (a b : ℕ) (l r : Tree) → Q (node d a b l r) → P (d .key) × Q l × Q r)
@@ -165,7 +162,7 @@ below-before : (key m : ℕ) (T : Tree) → Below m T → m ≤ key → NoneAfte
 unfolding Below
 below-before key m T h i =
     each-key (λ stamp. ltb key stamp ≡ false) (Below m)
-    (λ d a b l r k. (not-less key (d .key) (omega (arith, k .0)), k .1, k .2)) T h
+    (λ d a b l r k. (le-ltb key (d .key) (omega (arith, k .0)), k .1, k .2)) T h
 
 -- THE GROWN TREE has the list with the new record inserted
 module _ (new : Batch) where

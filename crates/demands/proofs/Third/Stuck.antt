@@ -5,7 +5,7 @@ use mathlib.Core.Option.{some}
 use mathlib.Core.List.{List}
 use native.Mathlib.Omega.{arith}
 use native.Mathlib.Decide.{ℕ-discrete}
-use borrow.Author.Tests.{ne-eqb}
+use borrow.Author.Tests.{ne-eqb, le-ltb}
 use Rattle.scope.specs.Numbers.{rootLink, mostHeight, sideOf, linkOf}
 use Rattle.scope.specs.Table.{word, rootWord, linkAt}
 use Rattle.scope.specs.Tree.{Tree, trueHeight}
@@ -25,7 +25,6 @@ use Rattle.bridge.proofs.Firing.Along.{hangs-along}
 use Rattle.bridge.proofs.Firing.Fires.{hangs-root}
 use Rattle.bridge.proofs.Links.Held.{root-only}
 use Rattle.bridge.proofs.Resting.Quiets.{relaxed, numbered}
-use Rattle.ledger.proofs.Entries.{not-less}
 use Rattle.demands.specs.Fires.{Trial, Accepted}
 use Rattle.demands.specs.Firing.{NamedPlace}
 use Rattle.demands.proofs.Open.{own-tree}
@@ -36,12 +35,12 @@ use Rattle.demands.proofs.Third.Walks.{tree-small}
 some-holder : (c k : ℕ) (s : Side) → k ≤ c → (k ≡ 0 → ⊥)
     → linkOf c k (sideNumber s) ≡ Known (record { holder = k; side = s })
 unfolding linkOf sideOf
-some-holder c k Left h ne = rw (not-less c k h, ne-eqb k 0 ne) refl
-some-holder c k Right h ne = rw (not-less c k h, ne-eqb k 0 ne) refl
+some-holder c k Left h ne = rw (le-ltb c k h, ne-eqb k 0 ne) refl
+some-holder c k Right h ne = rw (le-ltb c k h, ne-eqb k 0 ne) refl
 
 root-known : (c : ℕ) → linkOf c 0 0 ≡ Known rootLink
 unfolding linkOf sideOf
-root-known c = rw (not-less c 0 (omega arith)) refl
+root-known c = rw (le-ltb c 0 (omega arith)) refl
 
 pub link-known : (c : ℕ) (l : Link) → l .holder ≤ c → (l .holder ≡ 0 → l ≡ rootLink)
     → linkOf c (l .holder) (sideNumber (l .side)) ≡ Known l
