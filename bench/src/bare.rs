@@ -7,7 +7,7 @@ use std::hint::{black_box, select_unpredictable};
 /// The word of a slot, with no test of the place.
 #[inline]
 unsafe fn word(t: *const u32, k: usize, field: usize) -> u32 {
-    *t.add(8 * k - 4 + field)
+    *t.add(length(k - 1) + field)
 }
 
 /// Writes the answer of a hit or a miss, as find gives it.
@@ -49,7 +49,7 @@ bare!(bare_move, |t, k, left| select_unpredictable(left, word(t, k, LEFT), word(
 // Both links read beside the key, and one taken by a conditional move: the compiler must not leave out a volatile read,
 // and so does not make of it the form above.
 bare!(bare_both, |t: *const u32, k: usize, left| {
-    let slot = t.add(8 * k - 4);
+    let slot = t.add(length(k - 1));
     select_unpredictable(left, slot.add(LEFT).read_volatile(), slot.add(RIGHT).read_volatile())
 });
 

@@ -9,6 +9,8 @@ mod dice;
 mod finds;
 mod machine;
 mod measures;
+#[allow(dead_code)] // the bench has no use for three of the calls
+#[path = "../../bindings/rust/src/raw.rs"]
 mod ours;
 mod plain;
 mod plot;

@@ -4,6 +4,7 @@ use crate::batches::{in_order, posted, Batch, Order};
 use crate::clock::{contest, timed, Best, Turn};
 use crate::dice::Dice;
 use crate::stores::{promised, tree_peers, Calls, Store};
+use crate::words::CHANGE;
 use std::hint::black_box;
 use std::time::Duration;
 
@@ -92,9 +93,9 @@ pub fn drops(words: &[u32], batches: &[Batch], share: Duration) -> Vec<Best> {
         Dice::new(50_000 + round).shuffle(&mut keys);
         keys
     };
-    let start = posted(&in_order(batches, Order::Random, 0))[2];
+    let start = posted(&in_order(batches, Order::Random, 0))[CHANGE];
     let mut stores: Vec<Store> = contestants().into_iter().map(|calls| full(calls, words, batches)).collect();
-    assert_eq!(start, words[2]);
+    assert_eq!(start, words[CHANGE]);
     for key in keys(0) {
         compare(&mut stores, "drop", |store| store.drop_record(key));
     }

@@ -3,7 +3,7 @@
 use crate::batches::Batch;
 use crate::clock::{contest, timed, Best, Turn};
 use crate::stores::{promised, Store, OURS, PLAIN};
-use crate::words::{length, Answer};
+use crate::words::{length, Answer, SLOT_WORDS};
 use crate::{ours, plain};
 use std::cell::RefCell;
 use std::hint::black_box;
@@ -57,7 +57,7 @@ impl Run {
 
 /// Runs of tidy to the end on the same words. What each contestant's first turn left and answered is compared.
 pub fn whole_runs(words: &[u32], share: Duration) -> Run {
-    let copies = (1_000 / (words.len() / 8)).max(1);
+    let copies = (1_000 / (words.len() / SLOT_WORDS)).max(1);
     let ends: RefCell<Vec<(Answer, Vec<u32>)>> = RefCell::new(Vec::new());
     let ends_of = &ends;
     let turns = contestants().into_iter().map(|(name, call)| Turn {

@@ -4,8 +4,12 @@ pub const MOST_SLOTS: usize = 4_095;
 pub const MOST_PIECES: u32 = 1_000_000;
 pub const MOST_HEIGHT: u32 = 65_535;
 
-/// The eight words of a slot, and their places in it.
-pub type Slot = [u32; 8];
+/// The words of the header and of a slot.
+pub const HEADER_WORDS: usize = 4;
+pub const SLOT_WORDS: usize = 8;
+
+/// A slot, and the places of its words.
+pub type Slot = [u32; SLOT_WORDS];
 pub const STATE: usize = 0;
 pub const KEY: usize = 1;
 pub const PIECES: usize = 2;
@@ -32,24 +36,24 @@ pub const ROOT: usize = 0;
 pub const RECORDS: usize = 1;
 pub const CHANGE: usize = 2;
 pub const ZERO: usize = 3;
-pub type Header = [u32; 4];
+pub type Header = [u32; HEADER_WORDS];
 
 /// How many words so many slots take.
-pub fn length(slots: usize) -> usize {
-    4 + 8 * slots
+pub const fn length(slots: usize) -> usize {
+    HEADER_WORDS + SLOT_WORDS * slots
 }
 
 /// The header and the slots, if the words are as many as a table's.
 pub fn parts(words: &[u32]) -> Option<(&Header, &[Slot])> {
-    let (header, rest) = words.split_first_chunk::<4>()?;
-    let (slots, over) = rest.as_chunks::<8>();
+    let (header, rest) = words.split_first_chunk::<HEADER_WORDS>()?;
+    let (slots, over) = rest.as_chunks::<SLOT_WORDS>();
     (over.is_empty() && (1..=MOST_SLOTS).contains(&slots.len())).then_some((header, slots))
 }
 
 /// The same, to be written.
 pub fn parts_mut(words: &mut [u32]) -> Option<(&mut Header, &mut [Slot])> {
-    let (header, rest) = words.split_first_chunk_mut::<4>()?;
-    let (slots, over) = rest.as_chunks_mut::<8>();
+    let (header, rest) = words.split_first_chunk_mut::<HEADER_WORDS>()?;
+    let (slots, over) = rest.as_chunks_mut::<SLOT_WORDS>();
     (over.is_empty() && (1..=MOST_SLOTS).contains(&slots.len())).then_some((header, slots))
 }
 
@@ -74,8 +78,16 @@ pub fn fit(s: &Slot, slots: usize) -> bool {
         && s[LAST] == 0
 }
 
+/// A new leaf.
+#[inline]
+pub fn leaf(state: u32, key: u32, pieces: u32) -> Slot {
+    let mut s = [0; SLOT_WORDS];
+    (s[STATE], s[KEY], s[PIECES]) = (state, key, pieces);
+    s
+}
+
 pub fn blank(s: &Slot) -> bool {
-    *s == [0; 8]
+    *s == [0; SLOT_WORDS]
 }
 
 pub fn refuse(code: u64) -> Answer {

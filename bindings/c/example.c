@@ -1,4 +1,4 @@
-/* Posts the three castings of the worked case, tidies the table, and shows answers and refusals. */
+/* Posts the three batches of the worked case, tidies the table, and shows answers and refusals. */
 #include <inttypes.h>
 #include <stdio.h>
 
@@ -9,7 +9,7 @@
 static uint32_t table[FTK_WORDS(SLOTS)];
 static const size_t words = FTK_WORDS(SLOTS);
 
-static void show(const char *what, const uint64_t out[5])
+static void show(const char *what, const uint64_t out[FTK_NUMBERS])
 {
     printf("%-16s code=%" PRIu64 " change=%" PRIu64 " value=%" PRIu64 " more=%" PRIu64 " kind=%" PRIu64 "\n", what,
            out[FTK_CODE], out[FTK_CHANGE], out[FTK_VALUE], out[FTK_MORE], out[FTK_KIND]);
@@ -19,7 +19,7 @@ static void show(const char *what, const uint64_t out[5])
 static void list(void)
 {
     uint64_t out[FTK_NUMBERS];
-    for (uint32_t r = 1; r <= table[1]; r++) {
+    for (uint32_t r = 1; r <= table[FTK_HEADER_RECORDS]; r++) {
         ftk_rank(table, words, r, out);
         uint32_t k = (uint32_t)out[FTK_VALUE];
         printf("  slot %" PRIu32 ": key %" PRIu32 ", %" PRIu32 " pieces, %s\n", k, table[FTK_WORD(k, FTK_KEY)],
@@ -66,7 +66,7 @@ int main(void)
     show("check", out);
     list();
 
-    table[3] = 1; /* damage: word 3 of a table is 0 */
+    table[FTK_HEADER_ZERO] = 1; /* damage */
     ftk_check(table, words, out);
     show("check, damaged", out);
     return 0;

@@ -6,10 +6,10 @@
 #include <stdlib.h>
 #include <string.h>
 
-enum { SLOTS = 4095, WORDS = 4 + 8 * SLOTS, STACK = 1 << 20, PAINT = 0xA5 };
+enum { SLOTS = FTK_MOST_SLOTS, WORDS = FTK_WORDS(SLOTS), STACK = 1 << 20, PAINT = 0xA5 };
 
 static uint32_t table[WORDS];
-static uint64_t out[5];
+static uint64_t out[FTK_NUMBERS];
 static int passed = 0;
 
 static uint32_t rising(uint32_t k) { return k; }
@@ -20,7 +20,7 @@ static void fill(uint32_t (*key)(uint32_t))
 {
     ftk_start(table, WORDS, out);
     for (uint32_t k = 1; k <= SLOTS; k++)
-        ftk_post(table, WORDS, key(k), 7, 1, out);
+        ftk_post(table, WORDS, key(k), 7, FTK_POURED, out);
 }
 
 static void check(void) { ftk_check(table, WORDS, out); }
@@ -65,17 +65,21 @@ static void each(const char *chain, uint32_t (*key)(uint32_t))
     struct {
         const char *name;
         void (*call)(void);
-        int number; /* which of the five numbers is held to what is wanted */
+        size_t number; /* which of the five numbers is held to what is wanted */
         uint64_t wanted;
     } calls[] = {
-        { "check", check, 0, 0 }, { "rank", rank, 0, 0 },  { "total", total, 2, 7 * (uint64_t)SLOTS },
-        { "worth", worth, 0, 0 }, { "find", find, 2, 7 }, { "tidy", tidy, 2, 1 },
-        { "drop", drop, 0, 0 },
+        { "check", check, FTK_CODE, FTK_ACCEPTED },
+        { "rank", rank, FTK_CODE, FTK_ACCEPTED },
+        { "total", total, FTK_VALUE, 7 * (uint64_t)SLOTS },
+        { "worth", worth, FTK_CODE, FTK_ACCEPTED },
+        { "find", find, FTK_VALUE, 7 },
+        { "tidy", tidy, FTK_VALUE, 1 },
+        { "drop", drop, FTK_CODE, FTK_ACCEPTED },
     };
     fill(key);
     for (size_t i = 0; i < sizeof calls / sizeof *calls; i++) {
         size_t used = used_by(calls[i].call);
-        if (out[0] != 0 || out[calls[i].number] != calls[i].wanted)
+        if (out[FTK_CODE] != FTK_ACCEPTED || out[calls[i].number] != calls[i].wanted)
             fail(chain, calls[i].name);
         printf("ok  %s, %s: %zu bytes\n", chain, calls[i].name, used);
         passed++;

@@ -92,7 +92,7 @@ pub fn post(words: &mut [u32], key: u32, pieces: u32, state: u32) -> Answer {
     if header[CHANGE] == u32::MAX {
         return refuse(SPENT);
     }
-    slots[free] = [state, key, pieces, 0, 0, 0, 0, 0];
+    slots[free] = leaf(state, key, pieces);
     put_link(header, slots, way.holder, way.side, free as u32 + 1);
     header[RECORDS] += 1;
     header[CHANGE] += 1;
@@ -146,7 +146,7 @@ pub fn drop(words: &mut [u32], key: u32) -> Answer {
     if son == 0 && way.holder != 0 {
         slots[way.holder - 1][way.side + (LEFTH - LEFT)] = 0;
     }
-    slots[way.slot - 1] = [0; 8];
+    slots[way.slot - 1] = [0; SLOT_WORDS];
     header[RECORDS] -= 1;
     header[CHANGE] += 1;
     accept(header, way.slot as u64, 0, 0)

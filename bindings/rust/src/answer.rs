@@ -1,6 +1,41 @@
-//! What calls are given and what they answer: states, sides, rules, and a struct for each kind of answer.
+//! What calls are given and what they answer: states, sides, rules, and each answer with its change number.
 
-/// What a record says of its casting.
+use crate::layout::{field, slot_words};
+use crate::refusal::Refusal;
+use crate::table::Table;
+
+/// An accepted answer: what was asked, and the change number behind it.
+///
+/// A figure that is kept or shown goes with its change number; [`is_current`](Answer::is_current) tells an old one. The
+/// answer is no number that could be taken for the figure alone:
+///
+/// ```compile_fail
+/// # fn noon(table: &futtockram::Table) -> Result<(), futtockram::Refusal> {
+/// let pieces: u64 = table.total(719)?;
+/// # Ok(())
+/// # }
+/// ```
+#[derive(Clone, Copy, Debug, PartialEq, Eq)]
+pub struct Answer<T> {
+    /// How many posts, amendments and drops the table had accepted, this call counted, since it was started.
+    pub change: u32,
+    /// What was asked.
+    pub is: T,
+}
+
+impl<T> Answer<T> {
+    /// Whether the table has accepted no post, amendment or drop since this answer. Refused if the table is not sound:
+    /// then no figure of it should be shown as a live one.
+    ///
+    /// Ask the table that gave the answer: each table counts for itself, and one that is started again counts from 0.
+    /// Firings do not move the change number. They keep every record in its slot with its key, pieces and state, so
+    /// ranks and totals stand; but they move the worth, the visits of a find, and the sons and registers of records.
+    pub fn is_current(&self, table: &Table) -> Result<bool, Refusal> {
+        Ok(table.check()?.change == self.change)
+    }
+}
+
+/// What a record says of its batch.
 #[derive(Clone, Copy, Debug, PartialEq, Eq, Hash)]
 #[repr(u32)]
 pub enum State {
@@ -72,15 +107,6 @@ pub struct Found {
     pub visits: u32,
 }
 
-/// An accepted post, amend or drop.
-#[derive(Clone, Copy, Debug, PartialEq, Eq)]
-pub struct Written {
-    /// The slot taken, amended or freed.
-    pub slot: u32,
-    /// The change number afterwards.
-    pub change: u32,
-}
-
 /// What tidy has done.
 #[derive(Clone, Copy, Debug, PartialEq, Eq)]
 pub struct Tidied {
@@ -101,4 +127,19 @@ pub struct Record {
     pub sons: [u32; 2],
     /// The heights that the record believes its sons to have.
     pub registers: [u32; 2],
+}
+
+impl Record {
+    /// The record in a slot; none if the slot is free or is not there.
+    pub(crate) fn in_slot(words: &[u32], slot: u32) -> Option<Record> {
+        let words = slot_words(words, slot)?;
+        Some(Record {
+            slot,
+            state: State::from_word(words[field::STATE].into())?,
+            key: words[field::KEY],
+            pieces: words[field::PIECES],
+            sons: [words[field::LEFT], words[field::RIGHT]],
+            registers: [words[field::LEFTH], words[field::RIGHTH]],
+        })
+    }
 }

@@ -1,7 +1,7 @@
-//! Futtockram for Rust: an index of castings that keeps itself balanced, in words lent by the caller.
+//! Futtockram for Rust: an index of batches that keeps itself balanced, in words lent by the caller.
 //!
-//! A [`Table`] borrows a slice of `4 + 8 * slots` words and keeps nothing else. Each call runs in the proved library
-//! and answers a struct, or a [`Refusal`] that can be shown to a person; a refused call has written no word.
+//! A [`Table`] borrows a slice of [`words_for`]`(slots)` words and keeps nothing else. Each call runs in the proved
+//! library and gives an [`Answer`], or a [`Refusal`] that can be shown to a person; a refused call has written no word.
 //!
 //! ```
 //! use futtockram::{words_for, Refusal, State, Table};
@@ -11,21 +11,47 @@
 //! table.post(480, 1200, State::Poured)?;
 //! table.post(510, 900, State::Poured)?;
 //! table.post(540, 750, State::Poured)?;
-//! assert_eq!(table.worth()?, 18);
+//! assert_eq!(table.worth()?.is, 18);
 //!
 //! let tidied = table.tidy(10)?;
-//! assert_eq!((tidied.firings, tidied.quiet), (4, true));
-//! assert_eq!(table.find(540)?.visits, 2);
-//! assert_eq!(table.find(999), Err(Refusal::Absent));
+//! assert_eq!((tidied.is.firings, tidied.is.quiet), (4, true));
+//! assert_eq!(table.find(540)?.is.visits, 2);
+//! assert_eq!(table.find(999), Err(Refusal::KeyAbsent));
 //! # Ok::<(), Refusal>(())
 //! ```
+//!
+//! # How a screen tells an old figure
+//!
+//! What was asked stands in an answer's `is`, beside the `change` number that the table had then. Keep the answer whole
+//! and show both: a figure is old once the table's change number is another one.
+//!
+//! ```
+//! # use futtockram::{words_for, Refusal, State, Table};
+//! # let mut words = [0; words_for(15)];
+//! # let mut table = Table::start(&mut words)?;
+//! table.post(480, 1200, State::Poured)?;
+//! let noon = table.total(719)?;
+//! assert_eq!(format!("{} pieces at change {}", noon.is, noon.change), "1200 pieces at change 1");
+//! assert!(noon.is_current(&table)?);
+//!
+//! table.post(510, 900, State::Poured)?;
+//! assert!(!noon.is_current(&table)?); // the screen asks again, or marks the figure as old
+//! # Ok::<(), Refusal>(())
+//! ```
+//!
+//! Each table counts its changes for itself, and firings are none: [`Answer::is_current`] says what follows from that.
 
 mod answer;
+pub mod layout;
 mod raw;
+mod reading;
+mod records;
 mod refusal;
 mod table;
 
-pub use answer::{Found, Record, Rule, Side, State, Tidied, Written};
+pub use answer::{Answer, Found, Record, Rule, Side, State, Tidied};
+pub use layout::words_for;
+pub use records::Records;
 pub use refusal::Refusal;
 pub use table::Table;
 
@@ -35,8 +61,3 @@ pub const MOST_SLOTS: usize = 4_095;
 pub const MOST_PIECES: u32 = 1_000_000;
 /// The largest height that a register holds.
 pub const MOST_HEIGHT: u32 = 65_535;
-
-/// The number of words of a table with so many slots.
-pub const fn words_for(slots: usize) -> usize {
-    4 + 8 * slots
-}

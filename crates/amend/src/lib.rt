@@ -1,4 +1,5 @@
 // amend: other pieces and another state for a record that is there.
+use gate::next_change;
 use post::record_ok;
 use scope::Amending;
 use scope::Answer;
@@ -6,14 +7,14 @@ use scope::Gate;
 use scope::Refusal;
 use scope::Slot;
 use scope::Walk;
-use settling::next_change;
-ghost use mathlib.Core.Path.{_≡_};
-ghost use Rattle.scope.specs.Amend.{amendingAt, amendPlan, amended, amendAnswer, amendTable};
+ghost use Rattle.scope.specs.Amend.{amendingAt, amendPlan, amended};
+ghost use Rattle.scope.specs.Calls.{Amend, Promise};
 ghost use Rattle.scope.specs.declared.outcome.Amending.the-variants.{Change};
 ghost use Rattle.spelling.specs.Ready.{Ready};
 ghost use Rattle.walk.specs.Walked.{Inside};
-ghost use Rattle.settling.specs.Ends.{Does};
-ghost use Rattle.settling.specs.Planned.{Changeable, AmendPlanned};
+ghost use Rattle.gate.specs.Ends.{Does};
+ghost use Rattle.amend.specs.Planned.{Changeable};
+ghost use Rattle.amend.specs.Planned.{AmendPlanned};
 
 // Tests 5 and 7.
 pub fn amending_at(t: &[u32], c: usize, w: Walk) -> Amending
@@ -66,7 +67,7 @@ pub fn change_record(t: &mut [u32], k: usize, pieces: u32, state: u32) -> Answer
 
 // amend: a record's pieces and state.
 pub fn amend(t: &mut [u32], key: u32, pieces: u32, state: u32) -> Answer
-    ensures { λ r. ⌜ (r ≡ amendAnswer (now (t .entry)) key pieces state) × (now (t .exit) ≡ amendTable (now (t .entry)) key pieces state) ⌝ }
+    ensures { λ r. ⌜ Promise (Amend key pieces state) (now (t .entry)) r (now (t .exit)) ⌝ }
 {
     match plan_amend(t, key, pieces, state) {
         Amending::Refuse(why) => gate::refuse(why),

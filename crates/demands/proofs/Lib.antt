@@ -1,6 +1,5 @@
 -- The demands, each with its proof.
 pub mod Open
-pub mod Teeth
 pub mod First
 pub mod Second
 pub mod Third

@@ -9,7 +9,7 @@ use Rattle.scope.specs.declared.slot.Slot.{Slot}
 use Rattle.scope.specs.declared.side.Link.{Link}
 use Rattle.scope.specs.declared.answer.Answer.{Answer}
 use Rattle.scope.specs.declared.outcome.Dropping.the-variants.{Lift, Replace}
-use Rattle.settling.specs.Ends.{Does, settled}
+use Rattle.gate.specs.Ends.{Does, settled}
 
 -- count and change were read from t
 module _ (t : List ℕ) (slot : ℕ) (link : Link) {y u : List ℕ} {count change : ℕ} {a : Answer}

@@ -10,9 +10,10 @@ ghost use Prim.Native.Nat.{_-_, _≤_, _<_};
 ghost use Rattle.scope.specs.Numbers.{lastChange};
 ghost use Rattle.scope.specs.Table.{slotAt, withSlot, InTable};
 ghost use Rattle.scope.specs.Fit.{zeroSlot};
-ghost use Rattle.scope.specs.Drop.{relinked, withRecord, dropped, dropAnswer, dropTable};
+ghost use Rattle.scope.specs.Drop.{relinked, withRecord, dropped};
+ghost use Rattle.scope.specs.Calls.{Drop, Promise};
 ghost use Rattle.scope.specs.declared.outcome.Dropping.the-variants.{Lift, Replace};
-ghost use Rattle.settling.specs.Ends.{Does, settled};
+ghost use Rattle.gate.specs.Ends.{Does, settled};
 ghost use Rattle.drop_plan.specs.Planned.{Linkable, Liftable, Replaceable};
 
 // The link takes the son; where that is none, a slot that holds the link has 0 in the register beside it.
@@ -64,7 +65,7 @@ pub fn vacate(t: &mut [u32], slot: usize, count: usize, change: u32) -> Answer
         last: 0,
     };
     words::put_slot(t, slot, zeros);
-    settling::settle(t, count - 1, change, slot)
+    gate::settle(t, count - 1, change, slot)
 }
 
 // A record with at most one son: the son takes its link.
@@ -93,7 +94,7 @@ pub fn replace(t: &mut [u32], slot: usize, least: usize, link: Link) -> Answer
 
 // drop: a record is taken out.
 pub fn drop(t: &mut [u32], key: u32) -> Answer
-    ensures { λ r. ⌜ (r ≡ dropAnswer (now (t .entry)) key) × (now (t .exit) ≡ dropTable (now (t .entry)) key) ⌝ }
+    ensures { λ r. ⌜ Promise (Drop key) (now (t .entry)) r (now (t .exit)) ⌝ }
 {
     match plan_drop(t, key) {
         Dropping::Refuse(why) => gate::refuse(why),

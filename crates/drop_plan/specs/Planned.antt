@@ -15,7 +15,7 @@ use Rattle.scope.specs.declared.outcome.Leftmost.the-variants as leftmost
 use Rattle.scope.specs.declared.outcome.Dropping.{Dropping}
 use Rattle.scope.specs.declared.outcome.Dropping.the-variants.{Refuse, Lift, Replace}
 use Rattle.spelling.specs.Ready.{Sized, Ready}
-use Rattle.settling.specs.Planned.{Placed}
+use Rattle.gate.specs.AtSlot.{AtSlot}
 
 -- the slot of a hit is fit
 abbrev pub HitFits : List ℕ → ℕ → Walk → Type 0
@@ -54,12 +54,12 @@ pub record Reached (t : List ℕ) (c : ℕ) (end r : Leftmost) : Type 0 where
 
 -- a record that can be lifted out, and one that another can replace
 pub record Lifting (t : List ℕ) (slot : ℕ) (link : Link) (son : ℕ) : Type 0 where
-  pub placed : Placed t slot
+  pub placed : AtSlot t slot
   pub held : link .holder ≤ placed .slots
   pub below : son ≤ placed .slots
 
 pub record Replacing (t : List ℕ) (slot least : ℕ) (link : Link) : Type 0 where
-  pub placed : Placed t slot
+  pub placed : AtSlot t slot
   pub inside : Inside t (placed .slots) (leftmost.Is least link)
 
 abbrev pub Aimed : List ℕ → Dropping → Type 0

@@ -8,9 +8,9 @@ use scope::Refusal;
 use scope::Rule;
 use scope::RuleIs;
 use scope::SlotsIs;
-ghost use mathlib.Core.Path.{_≡_};
 ghost use Prim.Native.Nat.{_≤_};
-ghost use Rattle.scope.specs.Fire.{aimed, fireAnswer, fireTable, onRule, onLink};
+ghost use Rattle.scope.specs.Fire.{aimed, onRule, onLink};
+ghost use Rattle.scope.specs.Calls.{Fire, Promise};
 ghost use Rattle.scope.specs.Numbers.{ruleOf, linkOf};
 ghost use Rattle.spelling.specs.Ready.{Sized};
 ghost use Rattle.fire_aim.specs.Aimed.{Aimed};
@@ -43,7 +43,7 @@ pub fn plan_in(t: &[u32], c: usize, rule: u32, holder: u32, side: u32) -> Firing
 
 // fire: a rule at a link.
 pub fn fire(t: &mut [u32], rule: u32, holder: u32, side: u32) -> Answer
-    ensures { λ a. ⌜ (a ≡ fireAnswer (now (t .entry)) rule holder side) × (now (t .exit) ≡ fireTable (now (t .entry)) rule holder side) ⌝ }
+    ensures { λ a. ⌜ Promise (Fire rule holder side) (now (t .entry)) a (now (t .exit)) ⌝ }
 {
     match gate::capacity(t.len()) {
         SlotsIs::Outside => gate::refuse(Refusal::WrongLength),

@@ -1,2 +1,3 @@
 -- Laws that the functions of `gate` lean on.
 pub mod Fitting
+pub mod Carried

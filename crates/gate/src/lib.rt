@@ -1,11 +1,14 @@
-// How a call begins and answers: the tests of header and slot, and the numbers of the refusals.
+// How a call begins and ends: the tests of header and slot, the numbers of the refusals, the header's numbers written.
 pub mod call;
+pub mod ending;
 pub mod tests;
 
 pub use call::accept;
 pub use call::capacity;
 pub use call::enter;
 pub use call::refuse;
+pub use ending::next_change;
+pub use ending::settle;
 pub use tests::blank;
 pub use tests::fit;
 pub use tests::header_ok;

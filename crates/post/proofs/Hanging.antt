@@ -16,17 +16,17 @@ use Rattle.scope.specs.declared.side.Link.{Link}
 use Rattle.scope.specs.declared.answer.Refusal.the-variants.{Damaged, NoFreeSlot, LastChange}
 use Rattle.scope.specs.declared.outcome.Posting.the-variants.{Refuse, Hang}
 use Rattle.spelling.specs.Ready.{Ready}
-use Rattle.settling.specs.Planned.{Planned}
+use Rattle.post.specs.Planned.{PostPlanned}
 
 module _ (t : List ℕ) (c : ℕ) (link : Link) (k : ℕ) where
-  pub hang-none : k ≡ 0 → Planned t (hangAt t c link k) (Refuse NoFreeSlot)
+  pub hang-none : k ≡ 0 → PostPlanned t (hangAt t c link k) (Refuse NoFreeSlot)
   unfolding hangAt
   hang-none z = record { is = simp (eq-eqb _ _ z); can = tt }
 
   -- slot k was read as s and tested, and n records are counted
   module _ {s : Slot} {blank : Bool} {n : ℕ} (there : k ≡ 0 → ⊥) (read : s ≡ slotAt t k)
       (tested : blank ≡ blankSlot s) (counted : n ≡ word t countWord) where
-    pub hang-damaged : (blank && ltb n c) ≡ false → Planned t (hangAt t c link k) (Refuse Damaged)
+    pub hang-damaged : (blank && ltb n c) ≡ false → PostPlanned t (hangAt t c link k) (Refuse Damaged)
     unfolding hangAt
     hang-damaged bad = record {
       is = simp (ne-eqb k 0 there, sym read, sym tested, sym counted, bad);
@@ -35,7 +35,7 @@ module _ (t : List ℕ) (c : ℕ) (link : Link) (k : ℕ) where
 
     -- v is the change number
     module _ {v : ℕ} (good : (blank && ltb n c) ≡ true) (numbered : v ≡ word t changeWord) where
-      pub hang-last : lastChange ≤ v → Planned t (hangAt t c link k) (Refuse LastChange)
+      pub hang-last : lastChange ≤ v → PostPlanned t (hangAt t c link k) (Refuse LastChange)
       unfolding hangAt
       hang-last le = record {
         is = simp (ne-eqb k 0 there, sym read, sym tested, sym counted, good, sym numbered, le-ltb _ _ le);
@@ -43,7 +43,7 @@ module _ (t : List ℕ) (c : ℕ) (link : Link) (k : ℕ) where
       }
 
       pub hang-here : Ready t c × (link .holder ≤ c) × (k ≤ c) → v < lastChange
-          → Planned t (hangAt t c link k) (Hang k link)
+          → PostPlanned t (hangAt t c link k) (Hang k link)
       unfolding hangAt
       hang-here p lt = record {
         is = simp (ne-eqb k 0 there, sym read, sym tested, sym counted, good, sym numbered, lt-ltb _ _ lt);

@@ -9,7 +9,7 @@ use Rattle.scope.specs.declared.slot.Slot.{Slot}
 use Rattle.scope.specs.declared.side.Link.{Link}
 use Rattle.scope.specs.declared.answer.Answer.{Answer}
 use Rattle.scope.specs.declared.outcome.Posting.the-variants.{Hang}
-use Rattle.settling.specs.Ends.{Does, settled}
+use Rattle.gate.specs.Ends.{Does, settled}
 
 -- count and change were read from t, x is t with the leaf, y is x with its link
 pub hung-by : (t : List ℕ) (k : ℕ) (link : Link) (new : Slot) {x y u : List ℕ} {count change : ℕ} {a : Answer}

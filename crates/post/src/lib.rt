@@ -7,15 +7,16 @@ use scope::Refusal;
 use scope::Slot;
 use scope::State;
 use scope::Walk;
-use settling::settle;
 ghost use mathlib.Core.Path.{_≡_};
 ghost use Prim.Native.Nat.{_≤_};
-ghost use Rattle.scope.specs.Post.{recordOk, hangAt, postingAt, postPlan, leafSlot, posted, postAnswer, postTable};
+ghost use Rattle.scope.specs.Post.{recordOk, hangAt, postingAt, postPlan, leafSlot, posted};
+ghost use Rattle.scope.specs.Calls.{Post, Promise};
 ghost use Rattle.scope.specs.declared.outcome.Posting.the-variants.{Hang};
 ghost use Rattle.spelling.specs.Ready.{Ready};
 ghost use Rattle.walk.specs.Walked.{Inside};
-ghost use Rattle.settling.specs.Ends.{Does};
-ghost use Rattle.settling.specs.Planned.{Hangable, Planned};
+ghost use Rattle.gate.specs.Ends.{Does};
+ghost use Rattle.post.specs.Planned.{Hangable};
+ghost use Rattle.post.specs.Planned.{PostPlanned};
 
 // Key, pieces and state are in range.
 pub fn record_ok(key: u32, pieces: u32, state: u32) -> bool
@@ -27,7 +28,7 @@ pub fn record_ok(key: u32, pieces: u32, state: u32) -> bool
 // Whether the lowest free slot k can be filled: test 6, and what follows it.
 pub fn hang_at(t: &[u32], c: usize, link: Link, k: usize) -> Posting
     requires { ⌜ Ready (now t) c × (link .holder ≤ c) × (k ≤ c) ⌝ }
-    ensures { λ r. ⌜ Planned (now (t .entry)) (hangAt (now (t .entry)) c link k) r ⌝ }
+    ensures { λ r. ⌜ PostPlanned (now (t .entry)) (hangAt (now (t .entry)) c link k) r ⌝ }
 {
     if k == 0 {
         return Posting::Refuse(Refusal::NoFreeSlot);
@@ -46,7 +47,7 @@ pub fn hang_at(t: &[u32], c: usize, link: Link, k: usize) -> Posting
 // Test 4 comes before them.
 pub fn posting_at(t: &[u32], c: usize, w: Walk) -> Posting
     requires { ⌜ Ready (now t) c × Inside c w ⌝ }
-    ensures { λ r. ⌜ Planned (now (t .entry)) (postingAt (now (t .entry)) c w) r ⌝ }
+    ensures { λ r. ⌜ PostPlanned (now (t .entry)) (postingAt (now (t .entry)) c w) r ⌝ }
 {
     match w {
         Walk::Damage => Posting::Refuse(Refusal::Damaged),
@@ -57,7 +58,7 @@ pub fn posting_at(t: &[u32], c: usize, w: Walk) -> Posting
 
 // What a post is to do: read and tested before anything is written.
 pub fn plan_post(t: &[u32], key: u32, pieces: u32, state: u32) -> Posting
-    ensures { λ r. ⌜ Planned (now (t .entry)) (postPlan (now (t .entry)) key pieces state) r ⌝ }
+    ensures { λ r. ⌜ PostPlanned (now (t .entry)) (postPlan (now (t .entry)) key pieces state) r ⌝ }
 {
     match gate::enter(t, record_ok(key, pieces, state)) {
         Gate::Shut(why) => Posting::Refuse(why),
@@ -90,12 +91,12 @@ pub fn hang(t: &mut [u32], k: usize, link: Link, new: Slot) -> Answer
     let change = words::change(t);
     words::put_slot(t, k, new);
     words::put_link(t, link, k);
-    settle(t, count + 1, change, k)
+    gate::settle(t, count + 1, change, k)
 }
 
 // post: a new record.
 pub fn post(t: &mut [u32], key: u32, pieces: u32, state: u32) -> Answer
-    ensures { λ r. ⌜ (r ≡ postAnswer (now (t .entry)) key pieces state) × (now (t .exit) ≡ postTable (now (t .entry)) key pieces state) ⌝ }
+    ensures { λ r. ⌜ Promise (Post key pieces state) (now (t .entry)) r (now (t .exit)) ⌝ }
 {
     match plan_post(t, key, pieces, state) {
         Posting::Refuse(why) => gate::refuse(why),

@@ -24,6 +24,7 @@ use Rattle.scope.proofs.Marked.{marked, worked}
 use Rattle.scope.proofs.Further.{further}
 use Rattle.scope.proofs.Refusals.{refusals}
 use Rattle.scope.proofs.Damage.{damage}
+use Rattle.scope.proofs.Bites.{bites}
 
 -- what the definitions give in each row is what the row states
 abbrev pub Holds : List Row → Type 0
@@ -37,9 +38,18 @@ pub record Computed : Type 0 where
   pub further-holds : Holds further
   pub refusals-hold : Holds refusals
   pub damage-holds : Holds damage
+  -- what rules idle calls out
+  pub bites-hold : Holds bites
 
 pub computed : Computed
-unfolding ruleOf sideOf linkOf slotsOf slotsIn slotAt withSlot linkAt written writes stateOk piecesOk linkOk tailOk fitSlot blankSlot headerOk size inOrder times below above ordered treeOf slotOk slotsOk soundTree soundTable gate stepOf walkFrom walkOf startOf foundIn findAnswer recordOk freeFrom freeSlot hangAt postingAt postPlan hung posted postOf amendingAt amendPlan amended amendOf leftmostFrom ifMay dropAt droppingAt dropPlan relinked dropped dropOf checkAnswer pick rankOf ranked rankAnswer totalOf totalAnswer negOf posOf NEG POS BAL RBAL worthOf worthAnswer guardAt highestAt actionAt takeOf judged aimW aimU aimV aim aimed firePlan fired fireOf holdsAt dueAt passes rulesFrom slotsFrom nextOf quiet linkFrom linkTo firedAt tidyFrom tidied tidyOf rulesFired answerOf tableOf answers after
+unfolding ruleOf sideOf linkOf slotsOf slotsIn slotAt withSlot linkAt written writes stateOk piecesOk linkOk tailOk
+    fitSlot blankSlot headerOk size inOrder times below above ordered treeOf slotOk slotsOk soundTree soundTable
+    gate stepOf walkFrom walkOf startOf foundIn findAnswer recordOk freeFrom freeSlot hangAt postingAt postPlan hung
+    posted postOf amendingAt amendPlan amended amendOf leftmostFrom ifMay dropAt droppingAt dropPlan relinked
+    dropped dropOf checkAnswer pick rankOf ranked rankAnswer totalOf totalAnswer negOf posOf NEG POS BAL RBAL
+    worthOf worthAnswer guardAt highestAt actionAt takeOf judged aimW aimU aimV aim aimed firePlan fired fireOf
+    holdsAt dueAt passes rulesFrom slotsFrom nextOf quiet linkFrom linkTo firedAt tidyFrom tidied tidyOf rulesFired
+    answerOf tableOf answers after
 computed =
     record {
       marked-holds = rows marked refl;
@@ -47,4 +57,5 @@ computed =
       further-holds = rows further refl;
       refusals-hold = rows refusals refl;
       damage-holds = rows damage refl;
+      bites-hold = rows bites refl;
     }

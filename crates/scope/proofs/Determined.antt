@@ -8,8 +8,8 @@ use Rattle.scope.specs.declared.answer.Answer.{Answer}
 module _ (x : Call) (t : List ℕ) where
   -- for each of the eleven calls, any table and any arguments
   pub determined : {r r′ : Answer} {u u′ : List ℕ} → Promise x t r u → Promise x t r′ u′ → (r ≡ r′) × (u ≡ u′)
-  determined p q = (p .answer ∙ sym (q .answer), p .words ∙ sym (q .words))
+  determined p q = (p .0 ∙ sym (q .0), p .1 ∙ sym (q .1))
 
   -- and it can be met
   pub met : Promise x t (answerOf x t) (tableOf x t)
-  met = record { answer = refl; words = refl }
+  met = (refl, refl)

@@ -5,5 +5,8 @@ pub mod Marked
 pub mod Further
 pub mod Refusals
 pub mod Damage
+pub mod Bites
 pub mod Computed
+pub mod Teeth
+pub mod Firings
 pub mod Determined

@@ -4,16 +4,16 @@ use mathlib.Core.List.{List, [], _∷_, _++_}
 use lib.ListN.{set, take}
 use Rattle.scope.specs.Table.{registerAt}
 use Rattle.scope.specs.Tidy.{rulesFired}
-use Rattle.scope.specs.Calls.{Call, Post, Drop, Total, Worth, Fire, Tidy, after}
+use Rattle.scope.specs.Calls.{Call, Check, Post, Drop, Total, Worth, Fire, Tidy, after}
 use Rattle.scope.specs.declared.side.Side.the-variants.{Left}
 use Rattle.scope.proofs.Script.{fresh, poured, fives, codes, values, header, slot, Row, row}
 
--- the three postings of the worked case, and what tidying makes of them
+-- the three postings of the worked case, and the table of `stand` after them
 abbrev day : List Call
 day = Post 480 1200 1 ∷ Post 510 900 1 ∷ Post 540 750 1 ∷ []
 
 abbrev m1 : List ℕ
-m1 = after day (fresh 3)
+m1 = after day (fresh 15)
 
 -- the worth before, and after each of four firings
 abbrev oneByOne : List Call
@@ -26,7 +26,7 @@ abbrev m3 : List ℕ
 m3 = after (poured (40 ∷ 20 ∷ 10 ∷ 30 ∷ [])) (fresh 4)
 
 abbrev m5 : List ℕ
-m5 = after (day ++ (Tidy 10 ∷ Drop 510 ∷ [])) (fresh 3)
+m5 = after (Tidy 10 ∷ Drop 510 ∷ []) m1
 
 -- a chain to the left whose second node's left register holds h
 abbrev m6 : ℕ → List ℕ
@@ -35,8 +35,18 @@ m6 h = set (after (poured (30 ∷ 20 ∷ 10 ∷ [])) (fresh 3)) (registerAt 2 Le
 abbrev pub marked : List Row
 marked =
     -- M1
-    row (rulesFired 10 3 m1) (2 ∷ 2 ∷ 2 ∷ 4 ∷ [])
-    ∷ row (values oneByOne m1) (18 ∷ 1 ∷ 14 ∷ 1 ∷ 10 ∷ 1 ∷ 7 ∷ 1 ∷ 0 ∷ [])
+    row (rulesFired 10 15 m1) (2 ∷ 2 ∷ 2 ∷ 4 ∷ [])
+    ∷ row (fives oneByOne m1)
+    (0 ∷ 3 ∷ 18 ∷ 0 ∷ 0
+    ∷ 0 ∷ 3 ∷ 1 ∷ 0 ∷ 0
+    ∷ 0 ∷ 3 ∷ 14 ∷ 0 ∷ 0
+    ∷ 0 ∷ 3 ∷ 1 ∷ 0 ∷ 0
+    ∷ 0 ∷ 3 ∷ 10 ∷ 0 ∷ 0
+    ∷ 0 ∷ 3 ∷ 1 ∷ 0 ∷ 0
+    ∷ 0 ∷ 3 ∷ 7 ∷ 0 ∷ 0
+    ∷ 0 ∷ 3 ∷ 1 ∷ 1 ∷ 0
+    ∷ 0 ∷ 3 ∷ 0 ∷ 0 ∷ 0
+    ∷ [])
     -- M2
     ∷ row (rulesFired 10 3 m2) (1 ∷ 2 ∷ 1 ∷ 7 ∷ [])
     ∷ row (header (after (Tidy 10 ∷ []) m2)) (3 ∷ 3 ∷ 3 ∷ 0 ∷ [])
@@ -55,9 +65,12 @@ marked =
     ∷ row (codes (Fire 1 0 0 ∷ []) (m6 65534)) (0 ∷ [])
     ∷ row (slot 1 (after (Fire 1 0 0 ∷ []) (m6 65534))) (1 ∷ 30 ∷ 1 ∷ 2 ∷ 0 ∷ 65535 ∷ 0 ∷ 0 ∷ [])
     -- M7
-    ∷ row (values (Total 0 ∷ []) m1) (0 ∷ [])
-    -- M8
-    ∷ row (codes (Fire 1 2 0 ∷ []) (after (poured (40 ∷ [])) (fresh 3))) (8 ∷ [])
+    ∷ row (fives (Total 0 ∷ []) m1) (0 ∷ 3 ∷ 0 ∷ 0 ∷ 0 ∷ [])
+    -- M8: slot 2 is free, and the table is sound
+    ∷ row (fives (Check ∷ Fire 1 2 0 ∷ []) (after (poured (40 ∷ [])) (fresh 3)))
+    (0 ∷ 1 ∷ 0 ∷ 0 ∷ 0
+    ∷ 8 ∷ 0 ∷ 0 ∷ 0 ∷ 0
+    ∷ [])
     ∷ []
 
 -- the worked case of the program `stand`, whose table has 15 slots: five calls, and the words that its list shows

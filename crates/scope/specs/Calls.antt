@@ -26,7 +26,7 @@ pub data Call : Type 0 where
   Tidy : ℕ → Call
 
 -- what each call answers
-unfoldable pub answerOf : Call → List ℕ → Answer
+abbrev pub answerOf : Call → List ℕ → Answer
 answerOf Start t = startAnswer t
 answerOf Check t = checkAnswer t
 answerOf (Find key) t = findAnswer t key
@@ -40,7 +40,7 @@ answerOf (Fire rule holder side) t = fireAnswer t rule holder side
 answerOf (Tidy budget) t = tidyAnswer t budget
 
 -- the table after each call; five of them only answer
-unfoldable pub tableOf : Call → List ℕ → List ℕ
+abbrev pub tableOf : Call → List ℕ → List ℕ
 tableOf Start t = startTable t
 tableOf Check t = t
 tableOf (Find key) t = t
@@ -54,9 +54,8 @@ tableOf (Fire rule holder side) t = fireTable t rule holder side
 tableOf (Tidy budget) t = tidyTable t budget
 
 -- what each call promises of its answer r and of the table u that it leaves, for any words and arguments
-pub record Promise (x : Call) (t : List ℕ) (r : Answer) (u : List ℕ) : Type 0 where
-  pub answer : r ≡ answerOf x t
-  pub words : u ≡ tableOf x t
+abbrev pub Promise : Call → List ℕ → Answer → List ℕ → Type 0
+Promise x t r u = (r ≡ answerOf x t) × (u ≡ tableOf x t)
 
 -- the answers of a list of calls, and the table after all of them
 unfoldable pub answers : List Call → List ℕ → List Answer

@@ -1,7 +1,7 @@
 //! The eleven calls as data: each can be run by the proved library and by the second writing of document 01.
 
 use crate::records::Answer;
-use crate::{firing, records, sums};
+use crate::{firing, library, records, sums};
 
 /// The names of the calls, in the order of the C interface.
 pub const NAMES: [&str; 11] =
@@ -30,22 +30,6 @@ pub const CODES: [&[u64]; 11] = [
 pub struct Call {
     pub name: usize,
     pub args: [u32; 3],
-}
-
-mod library {
-    extern "C" {
-        pub fn ftk_start(t: *mut u32, n: usize, out: *mut u64);
-        pub fn ftk_check(t: *const u32, n: usize, out: *mut u64);
-        pub fn ftk_find(t: *const u32, n: usize, key: u32, out: *mut u64);
-        pub fn ftk_post(t: *mut u32, n: usize, key: u32, pieces: u32, state: u32, out: *mut u64);
-        pub fn ftk_amend(t: *mut u32, n: usize, key: u32, pieces: u32, state: u32, out: *mut u64);
-        pub fn ftk_drop(t: *mut u32, n: usize, key: u32, out: *mut u64);
-        pub fn ftk_rank(t: *const u32, n: usize, r: u32, out: *mut u64);
-        pub fn ftk_total(t: *const u32, n: usize, key: u32, out: *mut u64);
-        pub fn ftk_worth(t: *const u32, n: usize, out: *mut u64);
-        pub fn ftk_fire(t: *mut u32, n: usize, rule: u32, holder: u32, side: u32, out: *mut u64);
-        pub fn ftk_tidy(t: *mut u32, n: usize, budget: u32, out: *mut u64);
-    }
 }
 
 impl Call {

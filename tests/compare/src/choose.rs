@@ -39,7 +39,7 @@ pub fn call_named(dice: &mut Dice, words: &[u32], name: &str) -> Call {
 
 /// A rank: mostly one that the table has, or one beyond.
 fn rank(dice: &mut Dice, words: &[u32]) -> u32 {
-    let count = slots_of(words.len()).map_or(1, |slots| slots.min(words[1] as usize));
+    let count = slots_of(words.len()).map_or(1, |slots| slots.min(words[RECORDS] as usize));
     match dice.below(12) {
         0 => 0,
         1 => dice.word(),

@@ -26,7 +26,7 @@ pub fn several(dice: &mut Dice, words: &mut [u32]) {
 }
 
 fn slot_count(words: &[u32]) -> usize {
-    (words.len() - 4) / 8
+    room(words.len())
 }
 
 /// A slot that is not free, if there is one: found from a random place on.
@@ -50,7 +50,7 @@ pub fn flip(dice: &mut Dice, words: &mut [u32]) {
 
 /// A link that leads back up, or to its own slot.
 pub fn cycle(dice: &mut Dice, words: &mut [u32]) {
-    let mut way = vec![words[0] as usize];
+    let mut way = vec![words[ROOT] as usize];
     while let Some(&k) = way.last() {
         let side = dice.below(2);
         if k == 0 || k > slot_count(words) || way.len() > slot_count(words) {
@@ -86,10 +86,10 @@ pub fn key_order(dice: &mut Dice, words: &mut [u32]) {
 /// A wrong number of records.
 pub fn record_count(dice: &mut Dice, words: &mut [u32]) {
     let slots = slot_count(words) as u32;
-    words[1] = match dice.below(4) {
+    words[RECORDS] = match dice.below(4) {
         0 => 0,
         1 => slots,
-        2 => words[1].wrapping_add(1),
+        2 => words[RECORDS].wrapping_add(1),
         _ => dice.below(slots as usize + 1) as u32,
     };
 }
@@ -99,7 +99,7 @@ pub fn orphan(dice: &mut Dice, words: &mut [u32]) {
     let slots = slot_count(words);
     let Some(free) = (1..=slots).filter(|&k| is_blank(words, k)).last() else { return };
     if dice.chance(1, 2) {
-        words[place(free, dice.below(8))] = dice.pick(&[1, 2, 3, u32::MAX]);
+        words[place(free, dice.below(SLOT_WORDS))] = dice.pick(&[1, 2, 3, u32::MAX]);
     } else {
         plausible_slot(dice, words, slots, free);
     }
@@ -108,7 +108,8 @@ pub fn orphan(dice: &mut Dice, words: &mut [u32]) {
 /// A bad header word.
 pub fn header(dice: &mut Dice, words: &mut [u32]) {
     let over = slot_count(words) as u32 + 1;
-    let (place, number) = dice.pick(&[(0, over), (0, u32::MAX), (1, over), (1, u32::MAX), (3, 1), (3, u32::MAX)]);
+    let (place, number) =
+        dice.pick(&[(ROOT, over), (ROOT, u32::MAX), (RECORDS, over), (RECORDS, u32::MAX), (ZERO, 1), (ZERO, u32::MAX)]);
     words[place] = number;
 }
 
@@ -149,15 +150,15 @@ fn plausible_slot(dice: &mut Dice, words: &mut [u32], slots: usize, k: usize) {
 /// Slots that are fit one by one, linked at random: cycles and shared sons everywhere.
 pub fn tangle(dice: &mut Dice) -> Vec<u32> {
     let slots = dice.pick(&[1, 2, 3, 4, 5, 6, 8, 12]);
-    let mut words = vec![0; 4 + 8 * slots];
+    let mut words = vec![0; length_of(slots)];
     for k in 1..=slots {
         if dice.chance(7, 8) {
             plausible_slot(dice, &mut words, slots, k);
         }
     }
-    words[0] = dice.below(slots + 1) as u32;
-    words[1] = dice.below(slots + 1) as u32;
-    words[2] = dice.pick(&[0, 5, u32::MAX - 1, u32::MAX]);
+    words[ROOT] = dice.below(slots + 1) as u32;
+    words[RECORDS] = dice.below(slots + 1) as u32;
+    words[CHANGE] = dice.pick(&[0, 5, u32::MAX - 1, u32::MAX]);
     words
 }
 
@@ -165,9 +166,9 @@ pub fn tangle(dice: &mut Dice) -> Vec<u32> {
 pub fn rubbish(dice: &mut Dice) -> Vec<u32> {
     let slots = dice.between(1, 12);
     let most = dice.pick(&[1, 2, 3, slots, slots + 1, 70_000, u32::MAX as usize]);
-    let mut words: Vec<u32> = (0..4 + 8 * slots).map(|_| dice.between(0, most) as u32).collect();
+    let mut words: Vec<u32> = (0..length_of(slots)).map(|_| dice.between(0, most) as u32).collect();
     if dice.chance(1, 2) {
-        words[3] = 0;
+        words[ZERO] = 0;
     }
     words
 }

@@ -5,7 +5,7 @@ use crate::call::{Call, NAMES};
 use crate::choose::{any_call, call_named};
 use crate::damage;
 use crate::dice::Dice;
-use crate::paper::{get, in_order, KEY, MOST_SLOTS};
+use crate::paper::{get, in_order, length_of, room, KEY, MOST_SLOTS};
 use crate::records::check;
 use crate::run::{Differs, Run};
 use crate::sums::{quiet_fault, worth_of};
@@ -27,7 +27,7 @@ pub const GROUPS: [(&str, u64, Work); 22] = [
     ("every firing on small tables", 80, every_firing),
     ("tables of up to 300 slots", 20, |run, calls| rows(run, calls, 30, middling)),
     ("tables of 4,095 slots", 10, largest),
-    ("every length from 0 to 4 + 8 x 4,096", 33, lengths),
+    ("every length from 0 to that of 4,096 slots", 33, lengths),
     ("damaged: random words", 32, |run, calls| rows(run, calls, 12, damage::rubbish)),
     ("damaged: fit slots linked at random", 40, |run, calls| rows(run, calls, 12, damage::tangle)),
     ("damaged: one word changed", 60, |run, calls| faults(run, calls, damage::flip)),
@@ -66,7 +66,7 @@ fn limits(run: &mut Run, calls: u64) -> Result<(), Differs> {
 fn grown(run: &mut Run, calls: u64) -> Result<(), Differs> {
     while run.calls < calls {
         let slots = run.dice.pick(&[1, 2, 5, 15, 40]);
-        let rubbish: Vec<u32> = (0..4 + 8 * slots).map(|_| run.dice.word()).collect();
+        let rubbish: Vec<u32> = (0..length_of(slots)).map(|_| run.dice.word()).collect();
         let mut bench = Bench::new(&rubbish);
         run.call(&mut bench, Call::new("start", &[]))?;
         for _ in 0..150 {
@@ -171,7 +171,7 @@ fn every_firing(run: &mut Run, calls: u64) -> Result<(), Differs> {
             2 => damage::tangle(&mut run.dice),
             _ => damage::faulty(&mut run.dice, damage::several),
         };
-        let slots = ((words.len() - 4) / 8) as u32;
+        let slots = room(words.len()) as u32;
         for holder in 0..=(slots + 1).min(6) {
             for (rule, side) in (0..=9).flat_map(|rule| (0..=2).map(move |side| (rule, side))) {
                 run.call(&mut Bench::new(&words), Call::new("fire", &[rule, holder, side]))?;
@@ -205,7 +205,7 @@ fn largest(run: &mut Run, calls: u64) -> Result<(), Differs> {
 
 /// Every length up to one slot too many, lawful ones too, each with some call; the shortest with every call.
 fn lengths(run: &mut Run, calls: u64) -> Result<(), Differs> {
-    let most = 4 + 8 * (MOST_SLOTS + 1);
+    let most = length_of(MOST_SLOTS + 1);
     let words: Vec<u32> = (0..most).map(|_| run.dice.word()).collect();
     let step = most as u64 / calls.max(1) + 1;
     while run.calls < calls {

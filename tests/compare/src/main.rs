@@ -10,6 +10,8 @@ mod damage;
 mod dice;
 mod firing;
 mod groups;
+#[path = "../../../bindings/rust/src/raw.rs"]
+mod library;
 mod marked;
 mod paper;
 mod records;

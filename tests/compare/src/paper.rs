@@ -4,6 +4,16 @@ pub const MOST_SLOTS: usize = 4_095;
 pub const MOST_PIECES: u32 = 1_000_000;
 pub const MOST_HEIGHT: u32 = 65_535;
 
+/// The words before the first slot, and the words of a slot.
+pub const HEADER_WORDS: usize = 4;
+pub const SLOT_WORDS: usize = 8;
+
+/// The places of the words before the first slot.
+pub const ROOT: usize = 0;
+pub const RECORDS: usize = 1;
+pub const CHANGE: usize = 2;
+pub const ZERO: usize = 3;
+
 /// The places of a slot's words, counted from its first.
 pub const STATE: usize = 0;
 pub const KEY: usize = 1;
@@ -24,15 +34,25 @@ pub const NO_GUARD: u64 = 8;
 pub const TOO_HIGH: u64 = 9;
 pub const UNREADABLE: u64 = 10;
 
+/// How many words so many slots take.
+pub const fn length_of(slots: usize) -> usize {
+    HEADER_WORDS + SLOT_WORDS * slots
+}
+
+/// How many whole slots so many words have room for.
+pub fn room(length: usize) -> usize {
+    length.saturating_sub(HEADER_WORDS) / SLOT_WORDS
+}
+
 /// How many slots so many words hold, if that is a table's length.
 pub fn slots_of(length: usize) -> Option<usize> {
-    let slots = length.checked_sub(4)? / 8;
-    (length == 4 + 8 * slots && (1..=MOST_SLOTS).contains(&slots)).then_some(slots)
+    let slots = room(length);
+    (length == length_of(slots) && (1..=MOST_SLOTS).contains(&slots)).then_some(slots)
 }
 
 /// The place of a word of slot `k`, which counts from 1.
 pub fn place(k: usize, field: usize) -> usize {
-    4 + 8 * (k - 1) + field
+    length_of(k - 1) + field
 }
 
 /// A word of slot `k`.
@@ -48,20 +68,20 @@ pub fn link(words: &[u32], holder: usize, side: usize) -> usize {
 /// The place of a link.
 pub fn link_place(holder: usize, side: usize) -> usize {
     if holder == 0 {
-        0
+        ROOT
     } else {
         place(holder, LINK[side])
     }
 }
 
-/// All eight words of a slot are zero.
+/// All words of a slot are zero.
 pub fn is_blank(words: &[u32], k: usize) -> bool {
-    words[place(k, 0)..=place(k, LAST)].iter().all(|&word| word == 0)
+    words[place(k, 0)..place(k, SLOT_WORDS)].iter().all(|&word| word == 0)
 }
 
-/// Writes eight zeros.
+/// Writes a zero to all words of a slot.
 pub fn blank(words: &mut [u32], k: usize) {
-    words[place(k, 0)..=place(k, LAST)].fill(0);
+    words[place(k, 0)..place(k, SLOT_WORDS)].fill(0);
 }
 
 /// A slot that can hold a record in a table of `slots` slots.
@@ -81,7 +101,7 @@ pub fn is_fit(words: &[u32], slots: usize, k: usize) -> bool {
 
 /// Words 0, 1 and 3 are in order.
 pub fn header_good(words: &[u32], slots: usize) -> bool {
-    words[0] as usize <= slots && words[1] as usize <= slots && words[3] == 0
+    words[ROOT] as usize <= slots && words[RECORDS] as usize <= slots && words[ZERO] == 0
 }
 
 /// The table is sound: every slot is looked at with the open range that the way to it leaves for its key.
@@ -91,7 +111,7 @@ pub fn is_sound(words: &[u32], slots: usize) -> bool {
     }
     let mut reached = vec![false; slots + 1];
     let mut count = 0;
-    let mut waiting = vec![(words[0] as usize, -1i64, i64::MAX)];
+    let mut waiting = vec![(words[ROOT] as usize, -1i64, i64::MAX)];
     while let Some((k, above, below)) = waiting.pop() {
         if k == 0 {
             continue;
@@ -105,13 +125,13 @@ pub fn is_sound(words: &[u32], slots: usize) -> bool {
         waiting.push((link(words, k, 0), above, key));
         waiting.push((link(words, k, 1), key, below));
     }
-    count == words[1] && (1..=slots).all(|k| reached[k] || is_blank(words, k))
+    count == words[RECORDS] && (1..=slots).all(|k| reached[k] || is_blank(words, k))
 }
 
 /// The slots of a sound table in key order.
 pub fn in_order(words: &[u32]) -> Vec<usize> {
     let (mut order, mut above) = (Vec::new(), Vec::new());
-    let mut k = words[0] as usize;
+    let mut k = words[ROOT] as usize;
     while k != 0 || !above.is_empty() {
         while k != 0 {
             above.push(k);
@@ -127,7 +147,7 @@ pub fn in_order(words: &[u32]) -> Vec<usize> {
 /// The slots of a sound table, each after the one that holds its link, with that holder and side.
 pub fn downward(words: &[u32]) -> Vec<(usize, usize, usize)> {
     let mut order = Vec::new();
-    let mut waiting = vec![(words[0] as usize, 0, 0)];
+    let mut waiting = vec![(words[ROOT] as usize, 0, 0)];
     while let Some((k, holder, side)) = waiting.pop() {
         if k != 0 {
             order.push((k, holder, side));

@@ -12,7 +12,7 @@ pub fn refuse(code: u64) -> Answer {
 
 /// An accepted call on the table as it stands afterwards.
 pub fn accept(words: &[u32], value: u64, more: u64, kind: u64) -> Answer {
-    [0, u64::from(words[2]), value, more, kind]
+    [0, u64::from(words[CHANGE]), value, more, kind]
 }
 
 /// Where a search ended: at a record or at an empty link, with the link it came by and the slots visited.
@@ -42,7 +42,7 @@ fn walk(words: &[u32], slots: usize, key: u32) -> Option<Way> {
     if !header_good(words, slots) {
         return None;
     }
-    let mut way = Way { slot: words[0] as usize, holder: 0, side: 0, visits: 0 };
+    let mut way = Way { slot: words[ROOT] as usize, holder: 0, side: 0, visits: 0 };
     while way.slot != 0 {
         if !way.visit(words, slots) {
             return None;
@@ -102,18 +102,18 @@ pub fn post(words: &mut [u32], key: u32, pieces: u32, state: u32) -> Answer {
         return refuse(PRESENT);
     }
     let Some(free) = (1..=slots).find(|&k| get(words, k, STATE) == 0) else { return refuse(FULL) };
-    if !is_blank(words, free) || words[1] as usize == slots {
+    if !is_blank(words, free) || words[RECORDS] as usize == slots {
         return refuse(DAMAGED);
     }
-    if words[2] == u32::MAX {
+    if words[CHANGE] == u32::MAX {
         return refuse(SPENT);
     }
     words[place(free, STATE)] = state;
     words[place(free, KEY)] = key;
     words[place(free, PIECES)] = pieces;
     words[link_place(way.holder, way.side)] = free as u32;
-    words[1] += 1;
-    words[2] += 1;
+    words[RECORDS] += 1;
+    words[CHANGE] += 1;
     accept(words, free as u64, 0, 0)
 }
 
@@ -126,12 +126,12 @@ pub fn amend(words: &mut [u32], key: u32, pieces: u32, state: u32) -> Answer {
     if way.slot == 0 {
         return refuse(ABSENT);
     }
-    if words[2] == u32::MAX {
+    if words[CHANGE] == u32::MAX {
         return refuse(SPENT);
     }
     words[place(way.slot, STATE)] = state;
     words[place(way.slot, PIECES)] = pieces;
-    words[2] += 1;
+    words[CHANGE] += 1;
     accept(words, way.slot as u64, 0, 0)
 }
 
@@ -167,10 +167,10 @@ pub fn drop(words: &mut [u32], key: u32) -> Answer {
             way.go(words, 0);
         }
     }
-    if words[1] == 0 {
+    if words[RECORDS] == 0 {
         return refuse(DAMAGED);
     }
-    if words[2] == u32::MAX {
+    if words[CHANGE] == u32::MAX {
         return refuse(SPENT);
     }
     if two {
@@ -183,7 +183,7 @@ pub fn drop(words: &mut [u32], key: u32) -> Answer {
         hang(words, way.holder, way.side, if sons[0] != 0 { sons[0] } else { sons[1] });
     }
     blank(words, way.slot);
-    words[1] -= 1;
-    words[2] += 1;
+    words[RECORDS] -= 1;
+    words[CHANGE] += 1;
     accept(words, way.slot as u64, 0, 0)
 }

@@ -2,7 +2,7 @@
 
 use crate::bench::{difference, Difference};
 use crate::call::ARITY;
-use crate::paper::slots_of;
+use crate::paper::*;
 use std::time::{Duration, Instant};
 
 /// Looks for a smaller case that still differs, for at most a few seconds.
@@ -36,7 +36,7 @@ fn try_words(best: &mut Difference, words: Vec<u32>) -> bool {
 fn fewer_slots(mut best: Difference, end: Instant) -> Difference {
     let mut cut = slots_of(best.before.len()).unwrap_or(0) / 2;
     while cut > 0 && Instant::now() < end {
-        let rest = best.before.len() - (8 * cut).min(best.before.len());
+        let rest = best.before.len() - (SLOT_WORDS * cut).min(best.before.len());
         let shorter = best.before[..rest].to_vec();
         if slots_of(rest).is_none() || !try_words(&mut best, shorter) {
             cut /= 2;
@@ -47,9 +47,9 @@ fn fewer_slots(mut best: Difference, end: Instant) -> Difference {
 
 /// Makes each word 0, 1 or half, where it still differs; whole slots first.
 fn smaller_words(mut best: Difference, end: Instant) -> Difference {
-    for slot in 0..best.before.len() / 8 {
+    for k in 1..=room(best.before.len()) {
         let mut words = best.before.clone();
-        words[4 + 8 * slot..].iter_mut().take(8).for_each(|word| *word = 0);
+        blank(&mut words, k);
         if words != best.before && Instant::now() < end {
             try_words(&mut best, words);
         }
@@ -104,9 +104,10 @@ fn show_slots(words: &[u32]) {
     if slots_of(words.len()).is_none() {
         return println!("  {} words, no table's length", words.len());
     }
-    println!("  root {}, records {}, change {}, word 3 {}", words[0], words[1], words[2], words[3]);
-    for (k, slot) in words[4..].chunks(8).enumerate().filter(|(_, slot)| slot.iter().any(|&word| word != 0)) {
-        let [state, key, pieces, left, right, lefth, righth, last] = slot else { continue };
+    println!("  root {}, records {}, change {}, word 3 {}", words[ROOT], words[RECORDS], words[CHANGE], words[ZERO]);
+    let slots = words[HEADER_WORDS..].chunks(SLOT_WORDS);
+    for (k, slot) in slots.enumerate().filter(|(_, slot)| slot.iter().any(|&word| word != 0)) {
+        let [state, key, pieces, left, right, lefth, righth, last, ..] = slot else { continue };
         println!(
             "  slot {}: state {state} key {key} pieces {pieces} left {left} right {right} \
              lefth {lefth} righth {righth} last {last}",

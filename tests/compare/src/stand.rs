@@ -1,7 +1,7 @@
 //! The program `stand` as document 01 states it: the bytes that it prints for the bytes that it reads.
 
 use crate::call::Call;
-use crate::paper::{get, in_order, HEIGHT, KEY, LINK, PIECES, STATE, UNREADABLE};
+use crate::paper::*;
 use crate::records::{check, refuse, Answer};
 
 const SLOTS: usize = 15;
@@ -55,7 +55,7 @@ fn list(out: &mut String, words: &[u32]) {
     if answer[0] != 0 {
         return print(out, answer);
     }
-    (answer[2], answer[3]) = (u64::from(words[1]), u64::from(words[0]));
+    (answer[2], answer[3]) = (u64::from(words[RECORDS]), u64::from(words[ROOT]));
     print(out, answer);
     for k in in_order(words) {
         let field = |f| get(words, k, f);
@@ -72,7 +72,7 @@ pub fn stand(input: &[u8]) -> String {
         print(&mut out, refuse(UNREADABLE));
         return out;
     }
-    let mut words = vec![0; 4 + 8 * SLOTS];
+    let mut words = vec![0; length_of(SLOTS)];
     let mut lines: Vec<&[u8]> = input.split(|&byte| byte == b'\n').collect();
     if lines.last().is_some_and(|rest| rest.is_empty()) {
         lines.pop();

@@ -30,7 +30,7 @@ pub fn total(words: &[u32], key: u32) -> Answer {
 
 /// The number of slots in the subtree of each slot of a sound table.
 fn sizes(words: &[u32], order: &[(usize, usize, usize)]) -> Vec<i128> {
-    let mut sizes = vec![0; words.len() / 8 + 1];
+    let mut sizes = vec![0; room(words.len()) + 1];
     for &(k, holder, _) in order.iter().rev() {
         sizes[k] += 1;
         if holder != 0 {

@@ -78,7 +78,7 @@ fn register(dice: &mut Dice, how: Registers, height: u32) -> u32 {
 
 /// Writes the register beside each link that has a son.
 pub fn set_registers(dice: &mut Dice, words: &mut [u32], how: Registers) {
-    let mut heights = vec![0; words.len() / 8 + 1];
+    let mut heights = vec![0; room(words.len()) + 1];
     for (k, holder, side) in downward(words).into_iter().rev() {
         let height = 1 + heights[link(words, k, 0)].max(heights[link(words, k, 1)]);
         heights[k] = height;
@@ -90,7 +90,7 @@ pub fn set_registers(dice: &mut Dice, words: &mut [u32], how: Registers) {
 
 /// A sound table with `count` records in `slots` slots.
 pub fn sound(dice: &mut Dice, slots: usize, count: usize, shape: Shape, how: Registers) -> Vec<u32> {
-    let mut words = vec![0; 4 + 8 * slots];
+    let mut words = vec![0; length_of(slots)];
     let (keys, numbers) = (keys(dice, count), slot_numbers(dice, slots));
     let mut waiting = vec![(0, count, 0, 0, 0)];
     while let Some((low, end, holder, side, depth)) = waiting.pop() {
@@ -106,8 +106,8 @@ pub fn sound(dice: &mut Dice, slots: usize, count: usize, shape: Shape, how: Reg
         waiting.push((low, middle, k, 0, depth + 1));
         waiting.push((middle + 1, end, k, 1, depth + 1));
     }
-    words[1] = count as u32;
-    words[2] = change_number(dice);
+    words[RECORDS] = count as u32;
+    words[CHANGE] = change_number(dice);
     set_registers(dice, &mut words, how);
     words
 }

@@ -2,7 +2,7 @@
 use mathlib.Core.Path.{refl}
 use borrow.Author.Needs.{needs}
 use Rattle.scope.specs.Amend.{amendOf, amended}
-use Rattle.settling.proofs.Carried.{carried}
+use Rattle.gate.proofs.Carried.{carried}
 use Rattle.amend.proofs.amend.Statement.{statement}
 use Rattle.amend.proofs.amend.Tie as tie
 

@@ -2,7 +2,7 @@
 use mathlib.Core.Path.{refl}
 use borrow.Author.Needs.{needs}
 use Rattle.scope.specs.Drop.{dropOf, dropped}
-use Rattle.settling.proofs.Carried.{carried}
+use Rattle.gate.proofs.Carried.{carried}
 use Rattle.drop.proofs.drop.Statement.{statement}
 use Rattle.drop.proofs.drop.Tie as tie
 

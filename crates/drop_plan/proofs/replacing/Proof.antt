@@ -2,7 +2,7 @@
 use mathlib.Core.Path.{sym}
 use native.Mathlib.Omega.{arith}
 use borrow.Author.Needs.{needs}
-use Rattle.settling.specs.Planned.{Placed}
+use Rattle.gate.specs.AtSlot.{AtSlot}
 use Rattle.drop_plan.proofs.replacing.Statement.{statement}
 use Rattle.drop_plan.proofs.replacing.Tie as tie
 
@@ -21,7 +21,7 @@ if-may-requires c κs =
     let s = b .before .before .before .before in
     let p = s .pre in
     let i = rw (b .least .given .1) at (b .before .before .leftmost .ensures .inside) in
-    let at : Placed _ _ = record { slots = s .args .c; ready = p .0; first = p .1; last = p .2 } in
+    let at : AtSlot _ _ = record { slots = s .args .c; ready = p .0; first = p .1; last = p .2 } in
     (omega arith, record { placed = at; inside = i })
 
 returns : tie.Need-returns

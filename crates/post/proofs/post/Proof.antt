@@ -2,7 +2,7 @@
 use mathlib.Core.Path.{refl}
 use borrow.Author.Needs.{needs}
 use Rattle.scope.specs.Post.{postOf, posted}
-use Rattle.settling.proofs.Carried.{carried}
+use Rattle.gate.proofs.Carried.{carried}
 use Rattle.post.proofs.post.Statement.{statement}
 use Rattle.post.proofs.post.Tie as tie
 

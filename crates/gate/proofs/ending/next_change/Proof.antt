@@ -1,7 +1,7 @@
--- `settling::next_change` meets its contract. Assumes nothing.
+-- `gate::next_change` meets its contract. Assumes nothing.
 use borrow.Author.Needs.{needs}
-use Rattle.settling.proofs.next_change.Statement.{statement}
-use Rattle.settling.proofs.next_change.Tie as tie
+use Rattle.gate.proofs.ending.next_change.Statement.{statement}
+use Rattle.gate.proofs.ending.next_change.Tie as tie
 
 add-change : tie.Need-add-change
 add-change c = search needs

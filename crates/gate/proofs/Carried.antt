@@ -4,7 +4,7 @@ use mathlib.Core.Path.{_≡_, sym, _∙_, ap}
 use mathlib.Core.List.{List}
 use Rattle.scope.specs.Answers.{Done}
 use Rattle.scope.specs.declared.answer.Answer.{Answer}
-use Rattle.settling.specs.Ends.{Does}
+use Rattle.gate.specs.Ends.{Does}
 
 -- r was read: it is the defined plan, and it turned out to be p; a and u are what carrying p out gave
 pub carried : {P : Type 0} (carry : P → Done) {plan r p : P} {a : Answer} {u : List ℕ} → r ≡ plan → r ≡ p

@@ -1,9 +1,10 @@
 // How an accepted call ends: the header's numbers are written, and the answer names a slot.
+use crate::call::accept;
 use scope::Answer;
 ghost use Prim.Native.Nat.{_≤_, _<_};
 ghost use Rattle.scope.specs.Numbers.{lastChange};
 ghost use Rattle.spelling.specs.Ready.{Headed};
-ghost use Rattle.settling.specs.Ends.{Does, numbered, settled};
+ghost use Rattle.gate.specs.Ends.{Does, numbered, settled};
 
 // One change more than before.
 pub fn next_change(t: &mut [u32], before: u32, slot: usize) -> Answer
@@ -12,7 +13,7 @@ pub fn next_change(t: &mut [u32], before: u32, slot: usize) -> Answer
 {
     let change = before + 1;
     words::put_change(t, change);
-    gate::accept(words::long(change), words::size(slot), 0, 0)
+    accept(words::long(change), words::size(slot), 0, 0)
 }
 
 // So many records, and one change more than before.

@@ -1,8 +1,8 @@
--- `settling::settle` meets its contract. Assumes nothing.
+-- `gate::settle` meets its contract. Assumes nothing.
 use mathlib.Core.Path.{sym}
 use borrow.Author.Needs.{needs}
-use Rattle.settling.proofs.settle.Statement.{statement}
-use Rattle.settling.proofs.settle.Tie as tie
+use Rattle.gate.proofs.ending.settle.Statement.{statement}
+use Rattle.gate.proofs.ending.settle.Tie as tie
 
 put-records-requires : tie.Need-put-records-requires
 put-records-requires c κs = search needs

@@ -1,0 +1,2 @@
+-- What the plan of an amendment is good for.
+pub mod Planned

@@ -1,0 +1,2 @@
+-- What the plan of a post is good for.
+pub mod Planned

@@ -1,2 +1,0 @@
--- Laws that the functions of `settling` lean on.
-pub mod Carried
