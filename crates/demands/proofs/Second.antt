@@ -1,4 +1,5 @@
 -- Demand 2: on a sound table as on a sorted list, firings by their guards, tidying in the stated order.
+pub mod Sorted
 pub mod Answers
 pub mod Ranks
 pub mod Amending
@@ -8,4 +9,5 @@ pub mod Exact
 pub mod Firing
 pub mod Enabled
 pub mod Tidying
+pub mod Order
 pub mod Sequence

@@ -5,7 +5,8 @@ use mathlib.Core.Bool.{Bool, true, false, _||_}
 use mathlib.Core.List.{List, [], _∷_}
 use lib.Dec.{eqb}
 use Rattle.scope.specs.Answers.{Done, codeOf, refused}
-use Rattle.scope.specs.Calls.{Call, Start, Check, Find, Post, Amend, Drop, Rank, Total, Worth, Fire, Tidy}
+use Rattle.scope.specs.Calls.{Call, Start, Check, Find, Post, Amend, Drop, Rank, Total, Worth, Fire, Tidy, answerOf}
+use Rattle.scope.specs.declared.answer.Answer.{Answer}
 use Rattle.scope.specs.declared.answer.Refusal.{Refusal}
 
 -- the codes of a call's refusals
@@ -25,6 +26,14 @@ codes (Tidy budget) = 1 ∷ 3 ∷ []
 abbrev pub among : ℕ → List ℕ → Bool
 among n [] = false
 among n (m ∷ ms) = eqb n m || among n ms
+
+-- a call is refused: its code is not 0
+abbrev pub Refuses : Call → List ℕ → Type 0
+Refuses x t = answerOf x t .code ≡ 0 → ⊥
+
+-- an answer's code, and four zeros
+abbrev pub onlyCode : Answer → Answer
+onlyCode a = record { code = a .code; change = 0; value = 0; more = 0; kind = 0 }
 
 -- accepted with code 0; or refused with a listed code, four zeros, and every word as it was
 pub data Answered (listed : List ℕ) (t : List ℕ) : Done → Type 0 where

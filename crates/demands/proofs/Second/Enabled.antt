@@ -1,4 +1,4 @@
--- Demand 3: the calls of fire that a sound table accepts are those of the rules that are due. Assumes nothing.
+-- Demand 2: the calls of fire that a sound table accepts are those of the rules that are due. Assumes nothing.
 use Prim.Native.Nat.{ℕ}
 use mathlib.Core.Path.{_≡_, refl, sym}
 use mathlib.Core.Bool.{not, _&&_}
@@ -98,12 +98,11 @@ module _ {t : List ℕ} {c : ℕ} (w : Whole t c) where
       at-link x r l p q (aims-out r l (aim t c r l) refl (rw (w .sound .header) at e))
 
   -- WHAT FIRE ACCEPTS IS DUE, at the slot whose link it names
-  pub accepted-due : (x : Trial) → tried t x .answer .code ≡ 0 → DueTrial t c x
+  pub accepted-due : (x : Trial) → Accepted t x → DueTrial t c x
   unfolding fireOf firePlan
   accepted-due x e =
       named x (ruleOf (x .rule)) (linkOf c (x .holder) (x .side)) refl refl (rw (sized-slots (w .sized)) at e)
 
-  -- THE RULE THAT IS NEXT COMES FIRST of all that fire accepts: no lower slot, and no lower rule at the same slot
-  pub first-accepted : (v n : ℕ) → nextOf t c ≡ At v n → (x : Trial) (e : tried t x .answer .code ≡ 0)
-      → NotAfter v n (accepted-due x e .slot) (x .rule)
-  first-accepted v n q x e = next-first t c v n q (accepted-due x e .slot) (x .rule) (accepted-due x e .due)
+  -- THE RULE THAT IS NEXT COMES FIRST of all that are due: no lower slot, and no lower rule at the same slot
+  pub first-accepted : (v n : ℕ) → nextOf t c ≡ At v n → (x : Trial) (d : DueTrial t c x) → NotAfter v n (d .slot) (x .rule)
+  first-accepted v n q x d = next-first t c v n q (d .slot) (x .rule) (d .due)

@@ -37,7 +37,6 @@ pub data Fares (t : List ℕ) (c : ℕ) (x : Trial) : Type 0 where
   rests : (Accepted t x → ⊥) → tried t x .words ≡ t → Fares t c x
 
 pub fares : {t : List ℕ} {c : ℕ} → Whole t c → (x : Trial) → Fares t c x
-unfolding answerOf tableOf
 fares {t} w x =
     let f = fire-exact w x in
     elim (ℕ-discrete (tried t x .answer .code) 0) [

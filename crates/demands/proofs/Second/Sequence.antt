@@ -23,14 +23,14 @@ told e = ap (λ (a : Answer). some (plain a)) e
 
 -- start asks for nothing but the length
 start-same : {t : List ℕ} {c : ℕ} → Sized t c → SameCall Start t c
-unfolding apart answerOf tableOf ledgerAnswer ledgerAfter
+unfolding apart ledgerAnswer ledgerAfter
 start-same z =
     let s = start-ledger z in
     record { answer = told (s .answer); whole = s .whole; ledger = s .ledger }
 
 -- one call
 pub call-ledger : {t : List ℕ} {c : ℕ} → Whole t c → (x : Call) → SameCall x t c
-unfolding apart answerOf tableOf ledgerAnswer ledgerAfter
+unfolding apart ledgerAnswer ledgerAfter
 call-ledger w Start = start-same (w .sized)
 call-ledger w Check = record { answer = told (check-whole w); whole = w; ledger = refl }
 call-ledger w (Find key) = record { answer = told (find-ledger w key); whole = w; ledger = refl }

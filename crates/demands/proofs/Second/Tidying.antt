@@ -1,4 +1,4 @@
--- Demand 3: tidy is its firings, each one an accepted call of fire. Assumes nothing.
+-- Demand 2: tidy is its firings, each one an accepted call of fire. Assumes nothing.
 use Prim.Native.Nat.{ℕ, zero, suc, _+_}
 use mathlib.Core.Path.{_≡_, refl, _∙_, ap}
 use mathlib.Core.Bool.{true}
@@ -91,7 +91,7 @@ more-spent (at-rest e) = at-rest e
 -- WHAT THE FIRINGS COME TO
 pub firings-run : {t t′ : List ℕ} {c budget : ℕ} {xs : List Trial} → Whole t c → Firings c t budget xs t′
     → Ran t c budget xs t′
-unfolding answers after answerOf tableOf
+unfolding answers after
 firings-run w (rests e) =
     record { table = refl; replies = refl; most = omega arith; stopped = at-rest e; whole = w; ledger = refl }
 firings-run w spent =

@@ -39,6 +39,6 @@ worth-falls-at w x z = omega (arith, rw z at (costs x (fares w x)))
 -- NO MORE ARE ACCEPTED THAN THE WORTH, in any list of attempts; what is left of it is the worth at the end
 pub spends : {t : List ℕ} {c : ℕ} → Whole t c → (xs : List Trial)
     → acceptedIn (answers (fires xs) t) + worthIn (after (fires xs) t) c ≤ worthIn t c
-unfolding answers after acceptedIn answerOf tableOf
+unfolding answers after acceptedIn
 spends w [] = omega arith
 spends w (x ∷ xs) = omega (arith, costs x (fares w x), spends (fire-ledger w x .whole) xs)

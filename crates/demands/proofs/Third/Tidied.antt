@@ -18,10 +18,11 @@ use Rattle.spelling.specs.Whole.{Whole}
 use Rattle.spelling.proofs.Spell.{tree-in}
 use Rattle.tree.specs.Shape.{Quiet}
 use Rattle.tree.proofs.Worth.Bound.{worth-bound}
-use Rattle.bridge.proofs.Resting.Quiets.{quiet-tree}
 use Rattle.bridge.proofs.Resting.Rests.{quiet-words, none-due}
+use Rattle.demands.specs.Exactly.{Exactly}
 use Rattle.demands.specs.Fires.{worthIn, Trial, acceptedIn}
 use Rattle.demands.specs.Tidying.{trialAt, Tidies, Stopped, all-spent, at-rest}
+use Rattle.demands.proofs.Third.Rest.{rest-exactly}
 use Rattle.demands.proofs.Third.Falls.{worth-falls-at, spends}
 use Rattle.demands.proofs.Second.Firing.{SameLedger}
 use Rattle.demands.proofs.Second.Tidying.{next-fires, tidy-is}
@@ -76,15 +77,15 @@ module _ {t : List ℕ} {c : ℕ} (w : Whole t c) (budget : ℕ) where
   more : tidyAnswer t budget .more ≡ cond (quiet u c) 1 0
   more = ap (λ (a : Answer). a .more) (does .answer)
 
-  -- MORE IS 1 EXACTLY IF NO GUARD HOLDS in the tree that is left
-  pub tidy-rests : Quiet (treeIn u c) → tidyAnswer t budget .more ≡ 1
-  tidy-rests q = more ∙ rw (quiet-words (does .run .whole) (rw (tree-in u c (does .run .whole .sound)) at q)) refl
+  rests : Exactly (quiet u c ≡ true) (Quiet (treeIn u c))
+  rests = rest-exactly (does .run .whole)
 
-  pub tidy-quiet : tidyAnswer t budget .more ≡ 1 → Quiet (treeIn u c)
-  tidy-quiet e =
-      by-bool (quiet u c)
-      (λ p. rw (tree-in u c (does .run .whole .sound)) (quiet-tree (does .run .whole) p))
-      (λ p. absurd (omega (arith, e, rw p at more)))
+  tidy-quiet : tidyAnswer t budget .more ≡ 1 → Quiet (treeIn u c)
+  tidy-quiet e = by-bool (quiet u c) (rests .only-if) (λ p. absurd (omega (arith, e, rw p at more)))
+
+  -- MORE IS 1 EXACTLY IF NO GUARD HOLDS in the tree that is left; a guard that the height limit stops holds too
+  pub tidy-rests : Exactly (tidyAnswer t budget .more ≡ 1) (Quiet (treeIn u c))
+  tidy-rests = record { whenever = λ q. more ∙ rw (rests .whenever q) refl; only-if = tidy-quiet }
 
   ended : worthIn t c ≤ budget → Stopped u c (length (does .trials)) budget → nextOf u c ≡ Nothing
   ended h (at-rest e) = e
