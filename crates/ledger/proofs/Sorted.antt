@@ -16,7 +16,7 @@ use Rattle.scope.specs.Calls.{Call, Start, Check, Find, Post, Amend, Drop, Rank
 use Rattle.ledger.specs.Entries.{Entry, lookup, insert, replace, remove}
 use Rattle.ledger.specs.Sorted.{EachStamp, AllAfter, Sorted}
 use Rattle.ledger.specs.OfTree.{entryOf, entriesOf}
-use Rattle.ledger.specs.Ledger.{Ledger, Entered, entry, kept, entered, onEntry, postIn, amendIn, dropIn}
+use Rattle.ledger.specs.Ledger.{Ledger, Entered, entry, entered, onEntry, postIn, amendIn, dropIn}
 use Rattle.ledger.specs.Sequence.{ledgerAfter, ledgerAfterAll}
 use Rattle.ledger.proofs.Lists.{not-here, each-join}
 use Rattle.ledger.proofs.Entries.{entries-node, each-key}

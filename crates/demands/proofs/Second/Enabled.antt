@@ -34,7 +34,7 @@ use Rattle.bridge.proofs.Resting.Dues.{Fires, fires-so}
 use Rattle.bridge.proofs.Resting.Meets.{v-some, due-meets}
 use Rattle.bridge.specs.Due.{NotAfter}
 use Rattle.bridge.proofs.Resting.Searches.{next-first}
-use Rattle.demands.specs.Fires.{Trial, tried, Accepted}
+use Rattle.demands.specs.Fires.{Trial, Accepted}
 use Rattle.demands.specs.Tidying.{DueTrial}
 use Rattle.demands.proofs.Open.{some-code}
 

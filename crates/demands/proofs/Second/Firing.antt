@@ -11,7 +11,7 @@ use Rattle.scope.specs.Tree.{leaf, inOrder}
 use Rattle.scope.specs.Sound.{Spells, treeIn}
 use Rattle.scope.specs.Answers.{Done, accepted, gate}
 use Rattle.scope.specs.Find.{startOf}
-use Rattle.scope.specs.Calls.{Fire, answerOf, tableOf}
+use Rattle.scope.specs.Calls.{Fire}
 use Rattle.scope.specs.declared.answer.Gate.the-variants.{Open}
 use Rattle.spelling.specs.Ready.{Sized}
 use Rattle.spelling.specs.Whole.{Whole}

@@ -9,7 +9,7 @@ use Rattle.scope.specs.Table.{word, changeWord}
 use Rattle.scope.specs.Answers.{Done, accepted}
 use Rattle.scope.specs.Fire.{aimed, firePlan, fired, fireOf}
 use Rattle.scope.specs.Tidy.{nodesAt, linkTo, nextOf, firedAt, tidyFrom, tidied, tidyOf, tidyTable}
-use Rattle.scope.specs.Calls.{answerOf, tableOf, answers, after}
+use Rattle.scope.specs.Calls.{answers, after}
 use Rattle.scope.specs.declared.outcome.Next.{Next}
 use Rattle.scope.specs.declared.outcome.Next.the-variants.{At, Nothing}
 use Rattle.scope.specs.declared.outcome.Firing.the-variants.{Fire}

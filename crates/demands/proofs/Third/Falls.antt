@@ -1,6 +1,6 @@
 -- Demand 3: the worth falls at every accepted fire; no list of attempts has more accepted ones. Assumes nothing.
 use Prim.Native.Nat.{ℕ, _+_, _≤_, _<_}
-use mathlib.Core.Path.{_≡_, ap}
+use mathlib.Core.Path.{ap}
 use mathlib.Core.Bool.{cond}
 use mathlib.Core.List.{List, [], _∷_}
 use native.Mathlib.Omega.{arith}
@@ -9,7 +9,7 @@ use borrow.Author.Tests.{ne-eqb}
 use Rattle.scope.specs.Numbers.{mostHeight}
 use Rattle.scope.specs.Sound.{treeIn}
 use Rattle.scope.specs.Worth.{worthOf}
-use Rattle.scope.specs.Calls.{answerOf, tableOf, answers, after}
+use Rattle.scope.specs.Calls.{answers, after}
 use Rattle.spelling.specs.Whole.{Whole}
 use Rattle.tree.proofs.Worth.Fall.{worth-falls}
 use Rattle.tree.proofs.Rest.Quiet.{accepted-fires}
