@@ -1,16 +1,18 @@
 -- What the calls that want a sound table answer on one. Assumes nothing.
 use Prim.Native.Nat.{ℕ}
 use mathlib.Core.Path.{_≡_, refl}
-use mathlib.Core.Bool.{Bool, true}
+use mathlib.Core.Bool.{Bool, true, cond}
 use mathlib.Core.List.{List}
 use native.Mathlib.Omega.{arith}
 use Rattle.scope.specs.Table.{word, changeWord}
+use Rattle.scope.specs.Fit.{headerOk}
 use Rattle.scope.specs.Sound.{soundTable, treeIn}
 use Rattle.scope.specs.Answers.{accepted, gate, answering, codeOf}
 use Rattle.scope.specs.Sums.{soundGate, checkAnswer}
 use Rattle.scope.specs.Worth.{worthAnswer}
 use Rattle.scope.specs.declared.answer.Refusal.{Refusal}
-use Rattle.scope.specs.declared.answer.Refusal.the-variants.{WrongLength, OutOfRange, Damaged, KeyPresent, KeyAbsent, NoFreeSlot, LastChange, GuardFails, TooHigh, Unreadable}
+use Rattle.scope.specs.declared.answer.Refusal.the-variants.{WrongLength, OutOfRange, Damaged, KeyPresent, KeyAbsent}
+use Rattle.scope.specs.declared.answer.Refusal.the-variants.{NoFreeSlot, LastChange, GuardFails, TooHigh, Unreadable}
 use Rattle.scope.specs.declared.answer.Gate.{Gate}
 use Rattle.scope.specs.declared.answer.Gate.the-variants.{Shut, Open}
 use Rattle.spelling.specs.Ready.{Sized}
@@ -39,14 +41,18 @@ own-tree {t} {c} w =
       };
     }
 
--- a gate whose three tests pass is open
-pub gate-opens : {t : List ℕ} {c : ℕ} (good : Bool) (whole : ℕ → Bool) → Sized t c → good ≡ true → whole c ≡ true
-    → gate t good whole ≡ Open c
+-- the gate of a call on a table that passes its third test: open, or shut where an argument is out of range
+pub gate-is : {t : List ℕ} {c : ℕ} (whole : ℕ → Bool) → Sized t c → whole c ≡ true → (good : Bool)
+    → gate t good whole ≡ cond good (Open c) (Shut OutOfRange)
 unfolding gate
-gate-opens good whole z g h = rw (sized-slots z, g, h) refl
+gate-is whole z h good = rw (sized-slots z, h) refl
 
-pub sound-opens : {t : List ℕ} {c : ℕ} (good : Bool) → Whole t c → good ≡ true → soundGate t good ≡ Open c
-sound-opens {t} {c} good w g = gate-opens good (λ n. soundTable t n) (w .sized) g (sound-test t c (w .sound))
+module _ {t : List ℕ} {c : ℕ} (w : Whole t c) where
+  pub header-gate : (good : Bool) → gate t good (λ n. headerOk n t) ≡ cond good (Open c) (Shut OutOfRange)
+  header-gate = gate-is (λ n. headerOk n t) (w .sized) (w .sound .header)
+
+  pub sound-gate : (good : Bool) → soundGate t good ≡ cond good (Open c) (Shut OutOfRange)
+  sound-gate = gate-is (λ n. soundTable t n) (w .sized) (sound-test t c (w .sound))
 
 -- no refusal has code 0
 pub some-code : (why : Refusal) → codeOf why ≡ 0 → ⊥
@@ -64,7 +70,7 @@ some-code Unreadable e = omega arith
 -- check says 0 on sound tables
 pub check-whole : {t : List ℕ} {c : ℕ} → Whole t c → checkAnswer t ≡ accepted (word t changeWord) 0 0 0
 unfolding checkAnswer
-check-whole w = rw (sound-opens true w refl) refl
+check-whole w = rw (sound-gate w true) refl
 
 -- and on no others
 pub record Sounds (t : List ℕ) : Type 0 where
@@ -83,4 +89,4 @@ check-sounds t e = checked t (soundGate t true) refl e
 -- the call worth tells the worth of the tree that the words spell
 pub worth-told : {t : List ℕ} {c : ℕ} → Whole t c → worthAnswer t ≡ accepted (word t changeWord) (worthIn t c) 0 0
 unfolding worthAnswer
-worth-told w = rw (sound-opens true w refl) refl
+worth-told w = rw (sound-gate w true) refl

@@ -1,8 +1,9 @@
--- When fire accepts its three numbers and what it does then, and when it refuses them with 2, 8 or 9. Assumes nothing: these are statements.
+-- What fire does with its three numbers, and with which code it refuses them. Assumes nothing: these are statements.
 use Prim.Native.Nat.{ℕ}
 use mathlib.Core.Path.{_≡_}
 use mathlib.Core.Option.{Option, none, some}
-use mathlib.Core.List.{List}
+use mathlib.Core.Bool.{true}
+use mathlib.Core.List.{List, [], _∷_}
 use Rattle.scope.specs.Numbers.{rootLink, ruleOf, linkOf}
 use Rattle.scope.specs.Table.{word, changeWord}
 use Rattle.scope.specs.Tree.{Tree}
@@ -16,6 +17,7 @@ use Rattle.tree.specs.Rewrite.{fireAt, acceptAt}
 use Rattle.bridge.specs.Leads.{Leads}
 use Rattle.bridge.specs.Fired.{Fired}
 use Rattle.demands.specs.Exactly.{Exactly}
+use Rattle.demands.specs.Listed.{among}
 use Rattle.demands.specs.Fires.{Trial}
 
 -- the rule and the link that the numbers name, on a table of c slots
@@ -64,7 +66,8 @@ pub record FireIs (t : List ℕ) (c : ℕ) (x : Trial) (d : Done) : Type 0 where
   -- every record in its slot, words 1 to 3 and the free slots as before
   pub answers : Enabled t c x → d .answer ≡ accepted (word t changeWord) 0 0 0
   pub acts : (e : Enabled t c x) → Fired t (d .words) c (treeIn t c) (e .tree)
-  -- and each refusal has its own reason
+  -- each refusal has its own reason, and there are no others
   pub nine : Exactly (d .answer .code ≡ 9) (OverLimit t c x)
   pub eight : Exactly (d .answer .code ≡ 8) (NoGuard t c x)
   pub two : Exactly (d .answer .code ≡ 2) (Named c x → ⊥)
+  pub listed : among (d .answer .code) (0 ∷ 2 ∷ 8 ∷ 9 ∷ []) ≡ true

@@ -18,7 +18,8 @@ use Rattle.tree.proofs.Keys.Lowest.{least-order}
 use Rattle.tree.proofs.Keys.Grown.{missing, grown}
 use Rattle.ledger.specs.Entries.{Entry, lookup, insert, replace, remove, sumTo}
 use Rattle.ledger.specs.Sorted.{EachStamp}
-use Rattle.ledger.proofs.Lists.{orElse, lookup-append, sum-append, replace-left, replace-right, remove-left, remove-right, NoneAfter, each-join, insert-left, insert-right}
+use Rattle.ledger.proofs.Lists.{orElse, lookup-append, sum-append, replace-left, replace-right, remove-left}
+use Rattle.ledger.proofs.Lists.{remove-right, NoneAfter, each-join, insert-left, insert-right}
 use Rattle.ledger.specs.OfTree.{entryOf, entriesOf}
 
 -- a node's records are those on its left, its own, and those on its right
@@ -173,9 +174,11 @@ module _ (new : Batch) where
   grown-entries (node d a b l r) e h =
       missing (new .key) d a b l r e
       (λ p left right. by-bool (ltb (new .key) (d .key))
-      (λ f. simp (p, f) (entries-node d _ b (grown new l) r ∙ ap (λ (x : List Entry). x ++ (entryOf d ∷ entriesOf r)) (grown-entries l (left f) (h .2))
+      (λ f. simp (p, f) (entries-node d _ b (grown new l) r
+      ∙ ap (λ (x : List Entry). x ++ (entryOf d ∷ entriesOf r)) (grown-entries l (left f) (h .2))
       ∙ sym (rw (entries-node d a b l r) (insert-left (entryOf new) (entriesOf l) (entryOf d) (entriesOf r) f))))
-      (λ f. simp (p, f) (entries-node d a _ l (grown new r) ∙ ap (λ (x : List Entry). entriesOf l ++ (entryOf d ∷ x)) (grown-entries r (right f) (h .3))
+      (λ f. simp (p, f) (entries-node d a _ l (grown new r)
+      ∙ ap (λ (x : List Entry). entriesOf l ++ (entryOf d ∷ x)) (grown-entries r (right f) (h .3))
       ∙ sym (rw (entries-node d a b l r) (insert-right (entryOf new) (entriesOf l) (entryOf d ∷ entriesOf r)
       (below-before (new .key) (d .key) l (h .0) (omega (arith, ltb-false (new .key) (d .key) f)))
       ∙ ap (λ (x : List Entry). entriesOf l ++ x) (behind d r f))))))

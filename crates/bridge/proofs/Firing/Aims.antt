@@ -141,19 +141,26 @@ module _ (t : List ℕ) (c : ℕ) (l : Link) where
         → (highest k v u u ≤ mostHeight → At (mk s dv v (mk s du u m n) far) T (written t (actionAt (ruleOn k s) pairs)))
         → Same k
     single k e T top act =
-        alike-by t _ (top guard) (top (within mostHeight)) (aims k e) (judge t _ k s pairs v u u T (lv .registers) (lu .registers) (lu .registers) act)
+        alike-by t _ (top guard) (top (within mostHeight)) (aims k e)
+        (judge t _ k s pairs v u u T (lv .registers) (lu .registers) (lu .registers) act)
 
     propagate-same : Same Propagate
     unfolding rewriteTop actionAt
-    propagate-same = single Propagate refl (propagated s dv du v u m n far) (λ test. simp top-is) (propagate-below l s dv du v u m n far h (y s) (slotAt t (y s)))
+    propagate-same =
+        single Propagate refl (propagated s dv du v u m n far) (λ test. simp top-is)
+        (propagate-below l s dv du v u m n far h (y s) (slotAt t (y s)))
 
     lean-same : Same Lean
     unfolding rewriteTop actionAt
-    lean-same = single Lean refl (rotated s dv du v u m n far) (λ test. simp top-is) (rotate-below l s dv du v u m n far h (y s) (slotAt t (y s)))
+    lean-same =
+        single Lean refl (rotated s dv du v u m n far) (λ test. simp top-is)
+        (rotate-below l s dv du v u m n far h (y s) (slotAt t (y s)))
 
     even-same : Same Even
     unfolding rewriteTop actionAt
-    even-same = single Even refl (rotated s dv du v u m n far) (λ test. simp top-is) (rotate-below l s dv du v u m n far h (y s) (slotAt t (y s)))
+    even-same =
+        single Even refl (rotated s dv du v u m n far) (λ test. simp top-is)
+        (rotate-below l s dv du v u m n far h (y s) (slotAt t (y s)))
 
   -- w is missing, or there
   module _ (s : Side) where
@@ -176,7 +183,8 @@ module _ (t : List ℕ) (c : ℕ) (l : Link) where
       unfolding rewriteTop Spells
       twice-none h =
           let top : (test : Test) → rewriteTop test (ruleOn Double s) (mk s dv v (mk s du u m leaf) far) ≡ none = λ test. simp top-is in
-          alike-by t _ (top guard) (top (within mostHeight)) (aims-on s dv du v u m leaf far h ∙ no-w (look-u l s dv du v u m leaf far h .farSon)) guard-fails
+          alike-by t _ (top guard) (top (within mostHeight))
+          (aims-on s dv du v u m leaf far h ∙ no-w (look-u l s dv du v u m leaf far h .farSon)) guard-fails
 
       twice-full : (dw : Batch) (w : Pair) (e f : Tree) (h : Hangs t c l (mk s dv v (mk s du u m (mk s dw w e f)) far))
           → Same s dv du v u m (mk s dw w e f) far h Double

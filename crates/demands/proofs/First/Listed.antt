@@ -14,7 +14,8 @@ use Rattle.scope.specs.Worth.{worthOf, worthAnswer}
 use Rattle.scope.specs.Calls.{Call, Start, Check, Find, Post, Amend, Drop, Rank, Total, Worth, Fire, Tidy, answerOf, tableOf}
 use Rattle.scope.specs.declared.answer.Refusal.{Refusal}
 use Rattle.demands.specs.Listed.{codes, among, Refuses, onlyCode, Answered, accepts, refuses}
-use Rattle.demands.proofs.First.Refusals.{start-answered, whole-answered, tidy-answered, rank-answered, find-answered, post-answered, amend-answered, drop-answered}
+use Rattle.demands.proofs.First.Refusals.{start-answered, whole-answered, tidy-answered, rank-answered}
+use Rattle.demands.proofs.First.Refusals.{find-answered, post-answered, amend-answered, drop-answered}
 use Rattle.demands.proofs.First.FireRefusals.{fire-answered}
 
 -- DEMAND 1: every call, for any words and arguments

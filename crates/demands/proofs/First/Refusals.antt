@@ -88,13 +88,15 @@ module _ (t : List ℕ) where
   pub start-answered : Answered (codes Start) t (startOf t)
   unfolding startOf
   start-answered =
-      by-gate t (codes Start) true (λ c. true) (started t) (λ why. refl) refl (λ e. neither refl e) (λ c e. neither refl e) (λ c. accepts refl)
+      by-gate t (codes Start) true (λ c. true) (started t)
+      (λ why. refl) refl (λ e. neither refl e) (λ c e. neither refl e) (λ c. accepts refl)
 
   -- calls that want a sound table and have no argument to test
   pub whole-answered : (f : ℕ → Answer) → ((c : ℕ) → f c .code ≡ 0)
       → Answered (1 ∷ 3 ∷ []) t (only t (answering (soundGate t true) f))
   whole-answered f h =
-      by-gate t (1 ∷ 3 ∷ []) true (λ c. soundTable t c) (λ g. only t (answering g f)) (λ why. refl) refl (λ e. neither refl e) (λ c e. refl) (λ c. accepts (h c))
+      by-gate t (1 ∷ 3 ∷ []) true (λ c. soundTable t c) (λ g. only t (answering g f))
+      (λ why. refl) refl (λ e. neither refl e) (λ c e. refl) (λ c. accepts (h c))
 
   pub tidy-answered : (budget : ℕ) → Answered (codes (Tidy budget)) t (tidyOf t budget)
   unfolding tidyOf tidied

@@ -1,8 +1,9 @@
--- Demand 2: fire is accepted exactly if the guard holds and no height is too high, and does the published action. Assumes nothing.
+-- Demand 2: fire is accepted exactly if its guard holds within the height limit, and does its action then. Assumes nothing.
 use Prim.Native.Nat.{ℕ}
 use mathlib.Core.Path.{_≡_, refl, sym, _∙_, ap}
 use mathlib.Core.Option.{Option, none, some}
-use mathlib.Core.List.{List}
+use mathlib.Core.Bool.{true}
+use mathlib.Core.List.{List, [], _∷_}
 use native.Mathlib.Omega.{arith}
 use Rattle.scope.specs.Numbers.{ruleOf, linkOf, mostHeight}
 use Rattle.scope.specs.Table.{word, changeWord}
@@ -25,6 +26,7 @@ use Rattle.bridge.specs.Alike.{guard-fails, too-high, Alike}
 use Rattle.bridge.specs.Fired.{Fired, FireEnds, at-way, no-way}
 use Rattle.bridge.proofs.Firing.Fires.{same-way}
 use Rattle.bridge.proofs.Firing.Calls.{sized-slots, link-in, fire-ends, plan-is}
+use Rattle.demands.specs.Listed.{among}
 use Rattle.demands.specs.Fires.{Trial, tried}
 use Rattle.demands.specs.Firing.{Named, NamedPlace, guarded, limited, Enabled, OverLimit, NoGuard, FireIs}
 use Rattle.demands.proofs.Open.{own-tree, some-code}
@@ -116,9 +118,11 @@ module _ {t : List ℕ} {c : ℕ} (w : Whole t c) (x : Trial) where
       → tried t x ≡ fired t (onRule a (λ r. onLink b (λ l. aimed t c r l))) → Outcome t c x (tried t x)
   unfolding fired
   by-names rule-is.Unknown b p q e =
-      unnamed (λ n. let y = sym p ∙ n .is-rule in let z : _≡_ {A = ℕ} 0 1 = cc in omega arith) (ap (λ (d : Done). d .answer .code) e)
+      unnamed (λ n. let y = sym p ∙ n .is-rule in let z : _≡_ {A = ℕ} 0 1 = cc in omega arith)
+      (ap (λ (d : Done). d .answer .code) e)
   by-names (rule-is.Known r) link-is.Unknown p q e =
-      unnamed (λ n. let y = sym q ∙ n .is-link in let z : _≡_ {A = ℕ} 0 1 = cc in omega arith) (ap (λ (d : Done). d .answer .code) e)
+      unnamed (λ n. let y = sym q ∙ n .is-link in let z : _≡_ {A = ℕ} 0 1 = cc in omega arith)
+      (ap (λ (d : Done). d .answer .code) e)
   by-names (rule-is.Known r) (link-is.Known l) p q e =
       by-link (record { rule = r; link = l; is-rule = p; is-link = q }) (aimed t c r l)
       (fire-ends (own-tree w) r l (link-in c (x .holder) (x .side) l q)) e
@@ -166,6 +170,17 @@ module _ {t : List ℕ} {c : ℕ} (w : Whole t c) (x : Trial) where
       → (tried t x .answer ≡ accepted (word t changeWord) 0 0 0) × Fired t (tried t x .words) c (treeIn t c) (e .tree)
   is-done e = ends-done (tried t x) (e .tree) (e .is) (at-place (e .at))
 
+  -- no other code
+  ends-listed : {g o : Option Tree} (d : Done) → Ends t c (treeIn t c) g o d → among (d .answer .code) (0 ∷ 2 ∷ 8 ∷ 9 ∷ []) ≡ true
+  ends-listed d (done T′ e a f) = rw a refl
+  ends-listed d (high T′ e n a) = rw a refl
+  ends-listed d (fails e n a) = rw a refl
+
+  is-listed : Outcome t c x (tried t x) → among (tried t x .answer .code) (0 ∷ 2 ∷ 8 ∷ 9 ∷ []) ≡ true
+  is-listed (unnamed n a) = rw a refl
+  is-listed (nowhere n p a) = rw a refl
+  is-listed (there p e) = ends-listed (tried t x) e
+
   -- FIRE, EXACTLY
   pub fire-exact : FireIs t c x (tried t x)
   fire-exact =
@@ -179,6 +194,7 @@ module _ {t : List ℕ} {c : ℕ} (w : Whole t c) (x : Trial) where
         };
         eight = record { whenever = is-eight outcome; only-if = no-guard outcome };
         two = record { whenever = is-two outcome; only-if = not-named outcome };
+        listed = is-listed outcome;
       }
 
 -- a fire that refuses what is enabled does not meet this

@@ -22,7 +22,7 @@ use Rattle.ledger.specs.OfTree.{entriesOf, entryOf}
 use Rattle.demands.specs.Fires.{Trial, tried, Accepted}
 use Rattle.demands.specs.Firing.{Enabled}
 use Rattle.demands.specs.Ledgers.{ledgerOf}
-use Rattle.demands.proofs.Open.{gate-opens}
+use Rattle.demands.proofs.Open.{gate-is}
 use Rattle.demands.proofs.First.Listed.{refused-is}
 use Rattle.demands.proofs.Second.Exact.{fire-exact}
 
@@ -78,6 +78,6 @@ zeros-started c z =
 pub start-ledger : {t : List ℕ} {c : ℕ} → Sized t c → Started c (startOf t)
 unfolding startOf
 start-ledger {t} {c} z =
-    let opens : gate t true (λ n. true) ≡ Open c = gate-opens true (λ n. true) z refl refl in
+    let opens : gate t true (λ n. true) ≡ Open c = gate-is (λ n. true) z refl true in
     rw (opens, ← z .room)
     (zeros-started c (record { room = sym (length-replicate (tableWords c) 0); some = z .some; most = z .most }))

@@ -11,13 +11,10 @@ use borrow.Author.Tests.{ne-eqb, lt-ltb, le-ltb}
 use Rattle.scope.proofs.Bools.{by-bool}
 use Rattle.scope.specs.Numbers.{rootLink, lastChange}
 use Rattle.scope.specs.Table.{word, countWord, changeWord}
-use Rattle.scope.specs.Fit.{headerOk}
 use Rattle.scope.specs.Tree.{Batch, Tree, size}
 use Rattle.scope.specs.Sound.{treeIn}
-use Rattle.scope.specs.Answers.{gate}
 use Rattle.scope.specs.Post.{recordOk, freeSlot, hangAt, postingAt, postPlan, leafSlot, posted, postOf}
 use Rattle.scope.specs.declared.answer.Refusal.the-variants.{OutOfRange, KeyPresent, NoFreeSlot, LastChange}
-use Rattle.scope.specs.declared.answer.Gate.the-variants.{Shut, Open}
 use Rattle.scope.specs.declared.side.Link.{Link}
 use Rattle.spelling.specs.Whole.{Whole}
 use Rattle.spelling.proofs.Spell.{tree-in}
@@ -29,10 +26,10 @@ use Rattle.ledger.specs.Entries.{Entry, insert}
 use Rattle.ledger.specs.Ledger.{Ledger, entry, kept, entered, onEntry, postIn}
 use Rattle.demands.specs.Ledgers.{ledgerOf, AsLedger}
 use Rattle.ledger.specs.OfTree.{entriesOf}
-use Rattle.demands.proofs.Open.{gate-opens}
+use Rattle.demands.proofs.Open.{header-gate}
 use Rattle.demands.proofs.Third.Walks.{walk-tree}
 use Rattle.ledger.proofs.Entries.{mapEntry, entries-size, grown-entries}
-use Rattle.demands.proofs.Second.Answers.{gate-range, lookup-is}
+use Rattle.demands.proofs.Second.Answers.{lookup-is}
 use Rattle.demands.proofs.Second.Amending.{both-refuse}
 
 module _ {t : List ℕ} {c : ℕ} (w : Whole t c) (key pieces state : ℕ) (ok : recordOk key pieces state ≡ true) where
@@ -97,9 +94,8 @@ pub post-ledger : {t : List ℕ} {c : ℕ} → Whole t c → (key pieces state :
     → AsLedger (postOf t key pieces state) c (postIn key pieces state (ledgerOf t c))
 unfolding postOf postPlan posted
 post-ledger {t} {c} w key pieces state =
-    by-bool (recordOk key pieces state)
-    (λ ok. let opens : gate t (recordOk key pieces state) (λ n. headerOk n t) ≡ Open c = gate-opens _ _ (w .sized) ok (w .sound .header) in
-    rw (opens, ok, ← lookup-is w key, walk-tree w key)
+    rw (header-gate w (recordOk key pieces state))
+    (by-bool (recordOk key pieces state)
+    (λ ok. rw (ok, ← lookup-is w key, walk-tree w key)
     (walked w key pieces state ok (seek key (w .sound .tree)) refl (visits key (w .sound .tree))))
-    (λ no-ok. let shut : gate t (recordOk key pieces state) (λ n. headerOk n t) ≡ Shut OutOfRange = gate-range _ _ (w .sized) no-ok in
-    rw (shut, no-ok) (both-refuse w OutOfRange))
+    (λ no-ok. rw no-ok (both-refuse w OutOfRange)))

@@ -12,15 +12,12 @@ use Rattle.scope.proofs.Bools.{by-bool}
 use Rattle.scope.specs.Table.{word, rootWord, slotAt}
 use Rattle.scope.specs.Tree.{Batch, Tree, leaf, node, inOrder}
 use Rattle.scope.specs.Sound.{Spells, batchAt, treeIn}
-use Rattle.scope.specs.Sums.{soundGate, slotsInOrder, pick, rankOf, ranked, rankAnswer}
-use Rattle.scope.specs.declared.answer.Gate.the-variants.{Shut, Open}
-use Rattle.scope.specs.declared.answer.Refusal.the-variants.{OutOfRange}
+use Rattle.scope.specs.Sums.{slotsInOrder, pick, rankOf, ranked, rankAnswer}
 use Rattle.spelling.specs.Whole.{Whole}
 use Rattle.ledger.specs.Entries.{Entry, nth}
 use Rattle.ledger.specs.OfTree.{entryOf, entriesOf}
 use Rattle.demands.specs.Ledgers.{ledgerOf, standing}
-use Rattle.demands.proofs.Open.{own-tree, sound-opens}
-use Rattle.demands.proofs.Second.Answers.{gate-range}
+use Rattle.demands.proofs.Open.{own-tree, sound-gate}
 
 -- every record of a list stands in its slot
 abbrev Stand : List ℕ → List Batch → Type 0
@@ -77,14 +74,14 @@ module _ {t : List ℕ} {c : ℕ} (w : Whole t c) (r : ℕ) where
       (λ p. let one : suc (r - 1) ≡ r = omega arith in
       rw p (nth-stands t ds (r - 1) s (omega (arith, leb-true r (length (map slotOf ds)) p, long))
       ∙ ap (λ (m : ℕ). nth m (map entryOf ds)) one))
-      (λ p. rw p (sym (nth-past r (map entryOf ds) (omega (arith, leb-false r (length (map slotOf ds)) p, long, length-map ds entryOf)))))
+      (λ p. let few = leb-false r (length (map slotOf ds)) p in
+      rw p (sym (nth-past r (map entryOf ds) (omega (arith, few, long, length-map ds entryOf)))))
 
   -- THE SLOT THAT RANK ANSWERS holds the ledger's record of that rank, and a refusal shows none
   pub rank-record : standing t (rankAnswer t r .value) ≡ nth r (ledgerOf t c .entries)
   unfolding rankAnswer
   rank-record =
-      by-bool (eqb r 0)
-      (λ e. let shut : soundGate t (not (eqb r 0)) ≡ Shut OutOfRange = gate-range _ _ (w .sized) (rw e refl) in
-      rw (shut, eqb-true r 0 e) (sym (nth-none (entriesOf (treeIn t c)))))
-      (λ e. let opens : soundGate t (not (eqb r 0)) ≡ Open c = sound-opens _ w (rw e refl) in
-      rw opens (picked (omega (arith, eqb-false r 0 e))))
+      rw (sound-gate w (not (eqb r 0)))
+      (by-bool (eqb r 0)
+      (λ e. rw (eqb-true r 0 e) (sym (nth-none (entriesOf (treeIn t c)))))
+      (λ e. rw e (picked (omega (arith, eqb-false r 0 e)))))

@@ -23,7 +23,7 @@ use Rattle.bridge.proofs.Resting.Searches.{next-due}
 use Rattle.ledger.specs.Ledger.{Ledger}
 use Rattle.demands.specs.Fires.{Trial, tried}
 use Rattle.demands.specs.Tidying.{trialAt, Firings, rests, spent, next, Stopped, all-spent, at-rest, Ran, Tidies}
-use Rattle.demands.proofs.Open.{sound-opens}
+use Rattle.demands.proofs.Open.{sound-gate}
 use Rattle.demands.proofs.Third.Stuck.{link-known}
 use Rattle.demands.proofs.Second.Firing.{fire-ledger}
 
@@ -113,7 +113,7 @@ firings-run {t} {t′} {c} w (next {xs = xs} v n e a f) =
 -- the call on a sound table
 tidy-opens : {t : List ℕ} {c : ℕ} → Whole t c → (budget : ℕ) → tidyOf t budget ≡ tidied t c (tidyFrom budget c t 0)
 unfolding tidyOf
-tidy-opens w budget = rw (sound-opens true w refl) refl
+tidy-opens w budget = rw (sound-gate w true) refl
 
 -- TIDY IS ITS FIRINGS
 pub tidy-is : {t : List ℕ} {c : ℕ} → Whole t c → (budget : ℕ) → Tidies t c budget

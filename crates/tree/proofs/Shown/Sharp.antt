@@ -1,4 +1,4 @@
--- The numbers matter: 7 for 6, all nodes for those outside, or 15 for 16 would be wrong of trees that tables have. Assumes nothing.
+-- The numbers matter: 7 for 6, all nodes for those outside, or 15 for 16 would be wrong. Assumes nothing.
 use Prim.Native.Nat.{ℕ, zero, suc, _+_, _*_, _-_, _≤_, _<_}
 use mathlib.Core.Path.{_≡_, refl, ap}
 use mathlib.Core.Option.{some}
@@ -91,7 +91,8 @@ unfolding POS BAL RBAL posOf size weigh topHeight
 whole-rises = refl
 
 pub not-whole : Variant whole → ⊥
-not-whole v = omega (arith, v (Left ∷ []) (ruleOn Propagate Left) (posted 0) (posted 1) posted-relaxed posted-carries, whole-rises)
+not-whole v =
+    omega (arith, v (Left ∷ []) (ruleOn Propagate Left) (posted 0) (posted 1) posted-relaxed posted-carries, whole-rises)
 
 -- the sparsest balanced tree of a height, with the keys from k + 1 on
 unfoldable sparse : ℕ → ℕ → Tree
