@@ -6,17 +6,16 @@ use Rattle.scope.specs.Calls.{Call}
 use Rattle.spelling.specs.Whole.{Whole}
 use Rattle.demands.specs.Fires.{fires}
 use Rattle.demands.specs.Demands.{Demand1, Demand2, Demand3}
-use Rattle.demands.proofs.Open.{worth-told}
+use Rattle.demands.proofs.Open.{worth-told, rest-exactly}
 use Rattle.demands.proofs.First.Listed.{code-listed, refused-zeros, refused-is}
 use Rattle.demands.proofs.Second.Sorted.{ledger-sorted}
 use Rattle.demands.proofs.Second.Sequence.{calls-ledger}
 use Rattle.demands.proofs.Second.Exact.{fire-exact}
 use Rattle.demands.proofs.Second.Order.{stated-order}
-use Rattle.demands.proofs.Second.Tidying.{tidy-is}
+use Rattle.demands.proofs.Second.Tidying.{tidy-is, tidy-rests}
 use Rattle.demands.proofs.Third.Falls.{worth-falls-at, spends}
-use Rattle.demands.proofs.Third.Rest.{rest-exactly, rest-balanced}
-use Rattle.demands.proofs.Third.Walks.{walk-16}
-use Rattle.demands.proofs.Third.Tidied.{worth-most, tidy-rests}
+use Rattle.demands.proofs.Third.Rest.{rest-balanced, walk-16}
+use Rattle.demands.proofs.Third.Tidied.{worth-most}
 
 pub demand-1 : (x : Call) (t : List ℕ) → Demand1 x t
 demand-1 x t =

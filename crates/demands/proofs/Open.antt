@@ -1,15 +1,19 @@
--- What the calls that want a sound table answer on one. Assumes nothing.
-use Prim.Native.Nat.{ℕ}
-use mathlib.Core.Path.{_≡_, refl}
+-- A sound table: the tree that its words spell, how its gates open, how a key is walked to, and when it rests. Assumes nothing.
+use Prim.Native.Nat.{ℕ, _≤_}
+use mathlib.Core.Path.{_≡_, refl, _∙_, ap}
 use mathlib.Core.Bool.{Bool, true, cond}
 use mathlib.Core.List.{List}
 use native.Mathlib.Omega.{arith}
-use Rattle.scope.specs.Table.{word, changeWord}
+use Rattle.scope.specs.Numbers.{rootLink}
+use Rattle.scope.specs.Table.{word, changeWord, linkAt}
 use Rattle.scope.specs.Fit.{headerOk}
+use Rattle.scope.specs.Tree.{Tree, size}
 use Rattle.scope.specs.Sound.{soundTable, treeIn}
 use Rattle.scope.specs.Answers.{accepted, gate, answering, codeOf}
+use Rattle.scope.specs.Walk.{walkOf}
 use Rattle.scope.specs.Sums.{soundGate, checkAnswer}
 use Rattle.scope.specs.Worth.{worthAnswer}
+use Rattle.scope.specs.Tidy.{quiet}
 use Rattle.scope.specs.declared.answer.Refusal.{Refusal}
 use Rattle.scope.specs.declared.answer.Refusal.the-variants.{WrongLength, OutOfRange, Damaged, KeyPresent, KeyAbsent}
 use Rattle.scope.specs.declared.answer.Refusal.the-variants.{NoFreeSlot, LastChange, GuardFails, TooHigh, Unreadable}
@@ -17,10 +21,19 @@ use Rattle.scope.specs.declared.answer.Gate.{Gate}
 use Rattle.scope.specs.declared.answer.Gate.the-variants.{Shut, Open}
 use Rattle.spelling.specs.Ready.{Sized}
 use Rattle.spelling.specs.Whole.{Whole}
+use Rattle.spelling.proofs.Laws.{header-count}
 use Rattle.spelling.proofs.Exact.{sound-test}
 use Rattle.spelling.proofs.Spell.{tree-in}
 use Rattle.spelling.proofs.Opened.{opened}
+use Rattle.tree.specs.Seek.{seek, route, visits, sought}
+use Rattle.tree.specs.Shape.{Quiet}
+use Rattle.tree.proofs.Rest.Height.{height-size}
+use Rattle.bridge.specs.Leads.{linkAlong}
 use Rattle.bridge.proofs.Firing.Calls.{sized-slots}
+use Rattle.bridge.proofs.Records.Seeks.{walk-is}
+use Rattle.bridge.proofs.Resting.Quiets.{quiet-tree}
+use Rattle.bridge.proofs.Resting.Rests.{quiet-words}
+use Rattle.demands.specs.Exactly.{Exactly}
 use Rattle.demands.specs.Fires.{worthIn}
 
 -- a sound table with the tree that its words spell
@@ -90,3 +103,22 @@ check-sounds t e = checked t (soundGate t true) refl e
 pub worth-told : {t : List ℕ} {c : ℕ} → Whole t c → worthAnswer t ≡ accepted (word t changeWord) (worthIn t c) 0 0
 unfolding worthAnswer
 worth-told w = rw (sound-gate w true) refl
+
+module _ {t : List ℕ} {c : ℕ} (w : Whole t c) where
+  abbrev T : Tree
+  T = w .sound .tree
+
+  -- no tree is larger than its table
+  pub tree-small : size T ≤ c
+  tree-small = omega (arith, w .sound .count, header-count c t (w .sound .header))
+
+  -- the walk of a key is the walk on the tree: it never meets damage
+  pub walk-tree : (key : ℕ) → walkOf t c key ≡ sought (seek key T) (linkAlong t (route key T) rootLink) (visits key T)
+  unfolding walkOf linkAt
+  walk-tree key =
+      walk-is t c key T c rootLink 0 (omega (arith, height-size T, tree-small)) (w .sound .reached)
+      ∙ ap (sought (seek key T) (linkAlong t (route key T) rootLink)) (omega arith)
+
+-- NO GUARD HOLDS on the words exactly if none holds in the tree that they spell
+pub rest-exactly : {t : List ℕ} {c : ℕ} → Whole t c → Exactly (quiet t c ≡ true) (Quiet (treeIn t c))
+rest-exactly w = record { whenever = quiet-words (own-tree w); only-if = quiet-tree (own-tree w) }

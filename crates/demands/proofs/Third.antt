@@ -1,6 +1,5 @@
 -- Demand 3: the worth falls, tidying cannot get stuck, and at rest no walk is long.
 pub mod Falls
 pub mod Rest
-pub mod Walks
 pub mod Stuck
 pub mod Tidied

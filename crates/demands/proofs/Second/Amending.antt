@@ -31,8 +31,7 @@ use Rattle.ledger.specs.Entries.{replace}
 use Rattle.ledger.specs.Ledger.{Ledger, entry, kept, entered, onEntry, amendIn}
 use Rattle.demands.specs.Ledgers.{ledgerOf, AsLedger}
 use Rattle.ledger.specs.OfTree.{entriesOf}
-use Rattle.demands.proofs.Open.{header-gate}
-use Rattle.demands.proofs.Third.Walks.{walk-tree}
+use Rattle.demands.proofs.Open.{header-gate, walk-tree}
 use Rattle.ledger.proofs.Entries.{mapEntry, amended-entries}
 use Rattle.demands.proofs.Second.Answers.{lookup-is}
 

@@ -25,8 +25,7 @@ use Rattle.ledger.specs.Entries.{lookup}
 use Rattle.ledger.specs.Ledger.{foundEntry, findIn, rankIn, totalIn}
 use Rattle.demands.specs.Ledgers.{ledgerOf, noVisits, noSlot}
 use Rattle.ledger.specs.OfTree.{entryOf}
-use Rattle.demands.proofs.Open.{header-gate, sound-gate}
-use Rattle.demands.proofs.Third.Walks.{walk-tree}
+use Rattle.demands.proofs.Open.{header-gate, sound-gate, walk-tree}
 use Rattle.ledger.proofs.Entries.{mapEntry, seek-lookup, total-sum}
 
 -- what a search finds stands in its slot

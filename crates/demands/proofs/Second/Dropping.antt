@@ -27,8 +27,7 @@ use Rattle.ledger.specs.Entries.{Entry, remove}
 use Rattle.ledger.specs.Ledger.{Ledger, Entered, kept, entered, onEntry, dropIn}
 use Rattle.demands.specs.Ledgers.{ledgerOf, AsLedger}
 use Rattle.ledger.specs.OfTree.{entriesOf}
-use Rattle.demands.proofs.Open.{header-gate}
-use Rattle.demands.proofs.Third.Walks.{walk-tree}
+use Rattle.demands.proofs.Open.{header-gate, walk-tree}
 use Rattle.ledger.proofs.Entries.{mapEntry, without-entries}
 use Rattle.demands.proofs.Second.Answers.{lookup-is}
 use Rattle.demands.proofs.Second.Amending.{both-refuse}

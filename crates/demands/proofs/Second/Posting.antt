@@ -26,8 +26,7 @@ use Rattle.ledger.specs.Entries.{Entry, insert}
 use Rattle.ledger.specs.Ledger.{Ledger, entry, kept, entered, onEntry, postIn}
 use Rattle.demands.specs.Ledgers.{ledgerOf, AsLedger}
 use Rattle.ledger.specs.OfTree.{entriesOf}
-use Rattle.demands.proofs.Open.{header-gate}
-use Rattle.demands.proofs.Third.Walks.{walk-tree}
+use Rattle.demands.proofs.Open.{header-gate, walk-tree}
 use Rattle.ledger.proofs.Entries.{mapEntry, entries-size, grown-entries}
 use Rattle.demands.proofs.Second.Answers.{lookup-is}
 use Rattle.demands.proofs.Second.Amending.{both-refuse}

@@ -16,7 +16,7 @@ use Rattle.demands.proofs.Second.Posting.{post-ledger}
 use Rattle.demands.proofs.Second.Amending.{amend-ledger}
 use Rattle.demands.proofs.Second.Dropping.{drop-ledger}
 use Rattle.demands.proofs.Second.Firing.{fire-ledger, start-ledger}
-use Rattle.demands.proofs.Third.Tidied.{tidy-ledger}
+use Rattle.demands.proofs.Second.Tidying.{tidy-ledger}
 
 abbrev told : {a b : Answer} → a ≡ b → some (plain a) ≡ some (plain b)
 told e = ap (λ (a : Answer). some (plain a)) e

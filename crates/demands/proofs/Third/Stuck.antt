@@ -4,17 +4,12 @@ use mathlib.Core.Path.{_≡_, refl}
 use mathlib.Core.Option.{some}
 use mathlib.Core.List.{List}
 use native.Mathlib.Omega.{arith}
-use native.Mathlib.Decide.{ℕ-discrete}
-use borrow.Author.Tests.{ne-eqb, le-ltb}
-use Rattle.scope.specs.Numbers.{rootLink, mostHeight, sideOf, linkOf}
+use Rattle.scope.specs.Numbers.{rootLink, mostHeight}
 use Rattle.scope.specs.Table.{word, rootWord, linkAt}
 use Rattle.scope.specs.Tree.{Tree, trueHeight}
 use Rattle.scope.specs.Sound.{treeIn}
 use Rattle.scope.specs.declared.rule.Rule.{Rule}
 use Rattle.scope.specs.declared.side.Side.{Side}
-use Rattle.scope.specs.declared.side.Side.the-variants.{Left, Right}
-use Rattle.scope.specs.declared.side.Link.{Link}
-use Rattle.scope.specs.declared.side.LinkIs.the-variants.{Known}
 use Rattle.spelling.specs.Whole.{Whole}
 use Rattle.tree.specs.Rewrite.{fireAt, within}
 use Rattle.tree.proofs.Firing.Place.{placed}
@@ -27,28 +22,9 @@ use Rattle.bridge.proofs.Links.Held.{root-only}
 use Rattle.bridge.proofs.Resting.Quiets.{relaxed, numbered}
 use Rattle.demands.specs.Fires.{Trial, Accepted}
 use Rattle.demands.specs.Firing.{NamedPlace}
-use Rattle.demands.proofs.Open.{own-tree}
+use Rattle.demands.proofs.Open.{own-tree, tree-small}
+use Rattle.demands.proofs.Second.Enabled.{link-known}
 use Rattle.demands.proofs.Second.Exact.{fire-exact}
-use Rattle.demands.proofs.Third.Walks.{tree-small}
-
--- a link of a table has its numbers
-some-holder : (c k : ℕ) (s : Side) → k ≤ c → (k ≡ 0 → ⊥)
-    → linkOf c k (sideNumber s) ≡ Known (record { holder = k; side = s })
-unfolding linkOf sideOf
-some-holder c k Left h ne = rw (le-ltb c k h, ne-eqb k 0 ne) refl
-some-holder c k Right h ne = rw (le-ltb c k h, ne-eqb k 0 ne) refl
-
-root-known : (c : ℕ) → linkOf c 0 0 ≡ Known rootLink
-unfolding linkOf sideOf
-root-known c = rw (le-ltb c 0 (omega arith)) refl
-
-pub link-known : (c : ℕ) (l : Link) → l .holder ≤ c → (l .holder ≡ 0 → l ≡ rootLink)
-    → linkOf c (l .holder) (sideNumber (l .side)) ≡ Known l
-link-known c l h r =
-    elim (ℕ-discrete (l .holder) 0) [
-      | yes z ↦ rw (r z) (root-known c)
-      | no ne ↦ some-holder c (l .holder) (l .side) h ne
-    ]
 
 -- NEVER STUCK: where a guard holds anywhere in the tree, fire accepts some numbers
 pub some-accepted : {t : List ℕ} {c : ℕ} → Whole t c → (way : List Side) (r : Rule) (T′ : Tree)

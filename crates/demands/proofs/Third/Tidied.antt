@@ -1,31 +1,26 @@
--- Demands 2 and 3: tidy keeps the ledger, fires no more than the worth, and rests with enough budget. Assumes nothing.
+-- Demand 3: the worth is bounded; tidy fires no more often than the worth, and rests with enough budget. Assumes nothing.
 use Prim.Native.Nat.{ℕ, _+_, _*_, _≤_}
 use mathlib.Core.Path.{_≡_, refl, _∙_, ap}
-use mathlib.Core.Bool.{true, cond}
+use mathlib.Core.Bool.{true}
 use mathlib.Core.List.{List, [], _∷_, map}
 use native.Mathlib.Omega.{arith}
 use lib.ListN.{length}
-use Rattle.scope.proofs.Bools.{by-bool}
 use Rattle.scope.specs.Table.{word, changeWord, countWord}
 use Rattle.scope.specs.Sound.{treeIn}
 use Rattle.scope.specs.Answers.{Done, accepted}
 use Rattle.scope.specs.Worth.{largestCarry, largestBalance}
-use Rattle.scope.specs.Tidy.{nextOf, quiet, tidyOf, tidyAnswer, tidyTable}
+use Rattle.scope.specs.Tidy.{nextOf, quiet, tidyAnswer, tidyTable}
 use Rattle.scope.specs.declared.answer.Answer.{Answer}
 use Rattle.scope.specs.declared.outcome.Next.{Next}
 use Rattle.scope.specs.declared.outcome.Next.the-variants.{At, Nothing}
 use Rattle.spelling.specs.Whole.{Whole}
 use Rattle.spelling.proofs.Spell.{tree-in}
-use Rattle.tree.specs.Shape.{Quiet}
 use Rattle.tree.proofs.Worth.Bound.{worth-bound}
 use Rattle.bridge.proofs.Resting.Rests.{quiet-words, none-due}
-use Rattle.demands.specs.Exactly.{Exactly}
 use Rattle.demands.specs.Fires.{worthIn, Trial, acceptedIn}
 use Rattle.demands.specs.Tidying.{trialAt, Tidies, Stopped, all-spent, at-rest}
-use Rattle.demands.proofs.Third.Rest.{rest-exactly}
 use Rattle.demands.proofs.Third.Falls.{worth-falls-at, spends}
-use Rattle.demands.proofs.Second.Firing.{SameLedger}
-use Rattle.demands.proofs.Second.Tidying.{next-fires, tidy-is}
+use Rattle.demands.proofs.Second.Tidying.{next-fires, tidy-is, tidy-more}
 
 -- the same reply to each is as many accepted ones
 all-accepted : (change : ℕ) (xs : List Trial) → acceptedIn (map (λ x. accepted change 0 0 0) xs) ≡ length xs
@@ -64,28 +59,11 @@ module _ {t : List ℕ} {c : ℕ} (w : Whole t c) (budget : ℕ) where
   value : tidyAnswer t budget .value ≡ length (does .trials)
   value = ap (λ (a : Answer). a .value) (does .answer)
 
-  -- TIDY LEAVES THE LEDGER as it was, whatever the budget
-  pub tidy-ledger : SameLedger t c (tidyOf t budget)
-  tidy-ledger = record { whole = does .run .whole; ledger = does .run .ledger }
-
   -- TIDY FIRES AT MOST AS OFTEN AS THE WORTH, and what is left of it is the worth at the end
   pub tidy-worth : tidyAnswer t budget .value + worthIn u c ≤ worthIn t c
   tidy-worth =
       let s = rw (does .run .table, does .run .replies) at (spends w (does .trials)) in
       omega (arith, s, value, all-accepted (word t changeWord) (does .trials))
-
-  more : tidyAnswer t budget .more ≡ cond (quiet u c) 1 0
-  more = ap (λ (a : Answer). a .more) (does .answer)
-
-  rests : Exactly (quiet u c ≡ true) (Quiet (treeIn u c))
-  rests = rest-exactly (does .run .whole)
-
-  tidy-quiet : tidyAnswer t budget .more ≡ 1 → Quiet (treeIn u c)
-  tidy-quiet e = by-bool (quiet u c) (rests .only-if) (λ p. absurd (omega (arith, e, rw p at more)))
-
-  -- MORE IS 1 EXACTLY IF NO GUARD HOLDS in the tree that is left; a guard that the height limit stops holds too
-  pub tidy-rests : Exactly (tidyAnswer t budget .more ≡ 1) (Quiet (treeIn u c))
-  tidy-rests = record { whenever = λ q. more ∙ rw (rests .whenever q) refl; only-if = tidy-quiet }
 
   ended : worthIn t c ≤ budget → Stopped u c (length (does .trials)) budget → nextOf u c ≡ Nothing
   ended h (at-rest e) = e
@@ -93,4 +71,4 @@ module _ {t : List ℕ} {c : ℕ} (w : Whole t c) (budget : ℕ) where
 
   -- ENOUGH BUDGET ENDS QUIET
   pub tidy-enough : worthIn t c ≤ budget → tidyAnswer t budget .more ≡ 1
-  tidy-enough h = more ∙ rw (rest-words (does .run .whole) (ended h (does .run .stopped))) refl
+  tidy-enough h = tidy-more w budget ∙ rw (rest-words (does .run .whole) (ended h (does .run .stopped))) refl
