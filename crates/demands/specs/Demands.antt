@@ -20,7 +20,7 @@ use Rattle.demands.specs.Firing.{FireIs}
 use Rattle.demands.specs.Ledgers.{ledgerOf}
 use Rattle.demands.specs.Sequence.{SameCalls}
 use Rattle.demands.specs.Tidying.{StatedOrder, Tidies}
-use Rattle.demands.specs.Short.{Short}
+use Rattle.demands.specs.Short.{mostVisits, Short}
 
 -- DEMAND 1, of any call x with any arguments, on any words t. That no input makes a call fail in an undefined way or run
 -- without end is shown of every function of the code before it is built; here is what the call answers and leaves
@@ -65,4 +65,4 @@ pub record Demand3 (t : List ℕ) (c : ℕ) : Type 0 where
   -- then each register is the true height, and no two sides of a node differ by more than one
   pub level : quiet t c ≡ true → Balanced (treeIn t c)
   -- and the walk to any key, hit or miss, visits at most 16 records
-  pub short : quiet t c ≡ true → (key : ℕ) → Short 16 (walkOf t c key)
+  pub short : quiet t c ≡ true → (key : ℕ) → Short mostVisits (walkOf t c key)

@@ -24,7 +24,7 @@ use Rattle.tree.proofs.Rest.Height.{balanced-height}
 use Rattle.bridge.specs.Leads.{linkAlong}
 use Rattle.bridge.proofs.Records.Seeks.{visits-high}
 use Rattle.bridge.proofs.Resting.Quiets.{relaxed}
-use Rattle.demands.specs.Short.{Short, hit, miss}
+use Rattle.demands.specs.Short.{mostVisits, Short, hit, miss}
 use Rattle.demands.proofs.Open.{own-tree, header-gate, tree-small, walk-tree, rest-exactly}
 
 -- a walk that visits so many slots, whatever it finds
@@ -39,23 +39,25 @@ module _ {t : List ℕ} {c : ℕ} (w : Whole t c) (q : quiet t c ≡ true) where
       quiet-balanced (treeIn t c) (relaxed t c (word t rootWord) (treeIn t c) (own-tree w .sound .reached))
       (rest-exactly w .only-if q)
 
-  low : trueHeight (treeIn t c) ≤ 16
-  low = balanced-height (treeIn t c) rest-balanced (omega (arith, tree-small (own-tree w), w .sized .most))
+  low : trueHeight (treeIn t c) ≤ mostVisits
+  low =
+      omega (arith, balanced-height (treeIn t c) rest-balanced (omega (arith, tree-small (own-tree w), w .sized .most)))
 
   -- AT REST NO WALK VISITS MORE THAN 16 SLOTS, hit or miss
-  pub walk-16 : (key : ℕ) → Short 16 (walkOf t c key)
+  pub walk-16 : (key : ℕ) → Short mostVisits (walkOf t c key)
   walk-16 key =
       let T = treeIn t c in
       rw (walk-tree (own-tree w) key)
-      (short 16 (seek key T) (linkAlong t (route key T) rootLink) (visits key T) (omega (arith, visits-high key T, low)))
+      (short mostVisits (seek key T) (linkAlong t (route key T) rootLink) (visits key T)
+      (omega (arith, visits-high key T, low)))
 
-  short-more : (x : Walk) → Short 16 x → foundIn t x .more ≤ 16
+  short-more : (x : Walk) → Short mostVisits x → foundIn t x .more ≤ mostVisits
   unfolding foundIn
   short-more x (hit h) = h
   short-more x (miss h) = omega arith
 
   -- and so says find
-  pub find-16 : (key : ℕ) → findAnswer t key .more ≤ 16
+  pub find-16 : (key : ℕ) → findAnswer t key .more ≤ mostVisits
   unfolding findAnswer
   find-16 key =
       rw (header-gate w (not (eqb key 0)))
