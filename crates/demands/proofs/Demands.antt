@@ -1,5 +1,5 @@
--- IS IT PROVED? The three demands of the user, each one theorem. `Whole t c` says that t is a sound table of c slots; check
--- answers 0 on these tables and no others (`check-whole`, `check-sounds` in Open). Assumes nothing.
+-- IS IT PROVED? The plant's three demands, each one theorem. `Whole t c` says that t is a sound table of c slots: those on
+-- which check answers 0, and no others (`check-whole` and `check-sounds` in Open). Assumes nothing.
 use Prim.Native.Nat.{ℕ}
 use mathlib.Core.List.{List}
 use Rattle.scope.specs.Calls.{Call}
@@ -14,7 +14,7 @@ use Rattle.demands.proofs.Second.Exact.{fire-exact}
 use Rattle.demands.proofs.Second.Order.{stated-order}
 use Rattle.demands.proofs.Second.Tidying.{tidy-is, tidy-rests}
 use Rattle.demands.proofs.Third.Falls.{worth-falls-at, spends}
-use Rattle.demands.proofs.Third.Rest.{rest-balanced, walk-16}
+use Rattle.demands.proofs.Third.Rest.{rest-balanced, walk-16, find-16}
 use Rattle.demands.proofs.Third.Tidied.{worth-most}
 
 pub demand-1 : (x : Call) (t : List ℕ) → Demand1 x t
@@ -43,4 +43,5 @@ demand-3 w =
       at-rest = rest-exactly w;
       level = rest-balanced w;
       short = walk-16 w;
+      find = find-16 w;
     }

@@ -1,4 +1,4 @@
--- The three demands of the user, each a record with a field for each clause. Assumes nothing: these are statements.
+-- The plant's three demands, each a record with a field for each of its clauses. Assumes nothing: these are statements.
 use Prim.Native.Nat.{ℕ, _+_, _*_, _≤_, _<_}
 use mathlib.Core.Path.{_≡_}
 use mathlib.Core.Bool.{true}
@@ -7,6 +7,7 @@ use Rattle.scope.specs.Table.{word, countWord, changeWord}
 use Rattle.scope.specs.Sound.{treeIn}
 use Rattle.scope.specs.Answers.{accepted}
 use Rattle.scope.specs.Walk.{walkOf}
+use Rattle.scope.specs.Find.{findAnswer}
 use Rattle.scope.specs.Worth.{worthAnswer, largestCarry, largestBalance}
 use Rattle.scope.specs.Tidy.{quiet, tidyAnswer, tidyTable}
 use Rattle.scope.specs.Calls.{Call, answerOf, tableOf, answers, after}
@@ -22,10 +23,10 @@ use Rattle.demands.specs.Sequence.{SameCalls}
 use Rattle.demands.specs.Tidying.{StatedOrder, Tidies}
 use Rattle.demands.specs.Short.{mostVisits, Short}
 
--- DEMAND 1, of any call x with any arguments, on any words t. That no input makes a call fail in an undefined way or run
--- without end is shown of every function of the code before it is built; here is what the call answers and leaves
+-- DEMAND 1, of any call x with any arguments, on any words t. The prover shows of every function of the code that it ends
+-- and stays within what was lent to it, and no call asks anything of its input; this is what a call answers and leaves
 pub record Demand1 (x : Call) (t : List ℕ) : Type 0 where
-  -- its code is 0, or one that document 01 lists for this call
+  -- its code is 0, or one of those that document 01 lists for this call
   pub numbered : among (answerOf x t .code) (0 ∷ codes x) ≡ true
   -- the other four numbers of a refusal are zero
   pub zeros : Refuses x t → answerOf x t ≡ onlyCode (answerOf x t)
@@ -34,35 +35,37 @@ pub record Demand1 (x : Call) (t : List ℕ) : Type 0 where
 
 -- DEMAND 2, of a sound table t of c slots
 pub record Demand2 (t : List ℕ) (c : ℕ) : Type 0 where
-  -- its records, from left to right, are a list sorted by stamp
+  -- its ledger, the records from left to right, is sorted by stamp
   pub sorted : Sorted (ledgerOf t c .entries)
-  -- any calls answer what they answer on that list, slots and visits apart, and leave the list that they leave there; of
-  -- the slot that a rank answers, the record that stands in it is compared
+  -- any list of calls answers as on the ledger and leaves what it leaves of the ledger; only slots and how many were
+  -- visited are not compared, and of the slot of a rank it is the record in it that is
   pub as-list : (xs : List Call) → SameCalls xs t c
-  -- a firing is accepted exactly if the published guard holds and no height above 65,535 would be written; then it does
-  -- exactly the published action, and alters no record and no change number
+  -- fire takes a rule just where its guard holds and every new height fits a register; then the tree changes as the rule
+  -- says, and the records, their slots and the change number stay
   pub fire : (x : Trial) → FireIs t c x (tried t x)
-  -- tidying makes firings until its budget is spent or none is next, each the next of the stated order
+  -- of all that fire would take, the next is the lowest slot and there the lowest rule; tidy fires the next one again and
+  -- again until its budget is spent or there is none
   pub order : StatedOrder t c
   pub tidy : (budget : ℕ) → Tidies t c budget
-  -- and says 1 for more exactly if no guard holds then
+  -- and answers 1 for more exactly if no guard holds then
   pub rests : (budget : ℕ) → Exactly (tidyAnswer t budget .more ≡ 1) (Quiet (treeIn (tidyTable t budget) c))
 
--- DEMAND 3, of a sound table t of c slots, whatever firings are tried on it
+-- DEMAND 3, of a sound table t of c slots on which nothing but firings is tried
 pub record Demand3 (t : List ℕ) (c : ℕ) : Type 0 where
-  -- the table stays sound, so that all of this holds again after them
+  -- whatever is tried, the table stays sound, so that all of this holds again
   pub stays : (xs : List Trial) → Whole (after (fires xs) t) c
-  -- each accepted firing lowers the worth of the tree that the words spell
+  -- every firing that is accepted lowers the worth of the tree that the words spell
   pub falls : (x : Trial) → Accepted t x → worthIn (tried t x .words) c < worthIn t c
-  -- so no more are accepted than the worth at the start; what they leave of it is the worth at the end
+  -- so of any list of them at most as many are accepted as the worth was, and what is left of it bounds the worth then
   pub no-more : (xs : List Trial) → acceptedIn (answers (fires xs) t) + worthIn (after (fires xs) t) c ≤ worthIn t c
-  -- the call worth answers this number, and it is no larger than document 01 says
+  -- this is the number that the call worth answers, and it has the bound of document 01
   pub told : worthAnswer t ≡ accepted (word t changeWord) (worthIn t c) 0 0
   pub bounded : (let T = treeIn t c in let n = word t countWord in
       worthIn t c ≤ 6 * largestCarry T * n * (n + 1) + 3 * largestBalance T * n)
-  -- no guard holds at any slot exactly if none holds anywhere in the tree
+  -- no guard holds at any slot exactly if none holds anywhere in that tree
   pub at-rest : Exactly (quiet t c ≡ true) (Quiet (treeIn t c))
-  -- then each register is the true height, and no two sides of a node differ by more than one
+  -- and then every register tells the true height, and the two sides of each node are level or one apart
   pub level : quiet t c ≡ true → Balanced (treeIn t c)
-  -- and the walk to any key, hit or miss, visits at most 16 records
+  -- and the walk to any key, hit or miss, visits 16 records or fewer; that is what find says of its visits
   pub short : quiet t c ≡ true → (key : ℕ) → Short mostVisits (walkOf t c key)
+  pub find : quiet t c ≡ true → (key : ℕ) → findAnswer t key .more ≤ mostVisits

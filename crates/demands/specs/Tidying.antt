@@ -34,7 +34,7 @@ pub record StatedOrder (t : List ℕ) (c : ℕ) : Type 0 where
   pub taken : (v n : ℕ) → nextOf t c ≡ At v n → Accepted t (trialAt t c v n)
   pub first : (v n : ℕ) → nextOf t c ≡ At v n → (x : Trial) (d : DueTrial t c x) → NotAfter v n (d .slot) (x .rule)
   -- where there is no next one, none is accepted
-  pub none : nextOf t c ≡ Nothing → (x : Trial) → Accepted t x → ⊥
+  pub at-end : nextOf t c ≡ Nothing → (x : Trial) → Accepted t x → ⊥
 
 -- the calls xs of fire lead from t to t′: each is of the rule that is next, each is accepted, and they end
 -- where the budget is spent or no rule is due

@@ -49,25 +49,10 @@ ends g (some T′) (Fire r n) a = done T′ refl refl a
 
 -- what an end tells of the place, and the place of the end
 module _ {t : List ℕ} {c : ℕ} {T : Tree} {g o : Option Tree} (d : Done) where
-  ends-accepted : Ends t c T g o d → d .answer .code ≡ 0 → (T′ : Tree) × (o ≡ some T′)
-  ends-accepted (done T′ e a f) z = (T′, e)
-  ends-accepted (high T′ e n a) z = absurd (omega arith)
-  ends-accepted (fails e n a) z = absurd (omega arith)
-
-  ends-high : Ends t c T g o d → d .answer .code ≡ 9 → (T′ : Tree) × (g ≡ some T′) × (o ≡ none)
-  ends-high (done T′ e a f) z = absurd (omega (arith, ap (λ (r : Answer). r .code) a))
-  ends-high (high T′ e n a) z = (T′, e, n)
-  ends-high (fails e n a) z = absurd (omega arith)
-
   ends-fails : Ends t c T g o d → d .answer .code ≡ 8 → g ≡ none
   ends-fails (done T′ e a f) z = absurd (omega (arith, ap (λ (r : Answer). r .code) a))
   ends-fails (high T′ e n a) z = absurd (omega arith)
   ends-fails (fails e n a) z = e
-
-  ends-in-range : Ends t c T g o d → d .answer .code ≡ 2 → ⊥
-  ends-in-range (done T′ e a f) z = omega (arith, ap (λ (r : Answer). r .code) a)
-  ends-in-range (high T′ e n a) z = omega arith
-  ends-in-range (fails e n a) z = omega arith
 
   ends-done : (T′ : Tree) → o ≡ some T′ → Ends t c T g o d
       → (d .answer ≡ accepted (word t changeWord) 0 0 0) × Fired t (d .words) c T T′
@@ -75,26 +60,71 @@ module _ {t : List ℕ} {c : ℕ} {T : Tree} {g o : Option Tree} (d : Done) wher
   ends-done T′ e (high U q n a) = no-tree (sym n ∙ e)
   ends-done T′ e (fails q n a) = no-tree (sym n ∙ e)
 
-  ends-nine : (T′ : Tree) → g ≡ some T′ → o ≡ none → Ends t c T g o d → d .answer .code ≡ 9
-  ends-nine T′ e n (done U q a f) = no-tree (sym n ∙ q)
-  ends-nine T′ e n (high U q m a) = a
-  ends-nine T′ e n (fails q m a) = no-tree (sym q ∙ e)
+  ends-high : (T′ : Tree) → g ≡ some T′ → o ≡ none → Ends t c T g o d → d .answer .code ≡ 9
+  ends-high T′ e n (done U q a f) = no-tree (sym n ∙ q)
+  ends-high T′ e n (high U q m a) = a
+  ends-high T′ e n (fails q m a) = no-tree (sym q ∙ e)
 
-  -- where the guard fails, nothing comes of the rule with the limit either
-  ends-eight : g ≡ none → ((T′ : Tree) → o ≡ some T′ → g ≡ some T′) → Ends t c T g o d → d .answer .code ≡ 8
-  ends-eight e lets (done U q a f) = no-tree (sym e ∙ lets U q)
-  ends-eight e lets (high U q n a) = no-tree (sym e ∙ q)
-  ends-eight e lets (fails q n a) = a
+-- the four ways in which the call can end, each with its code
+data Case (t : List ℕ) (c : ℕ) (x : Trial) (code : ℕ) : Type 0 where
+  case-0 : Enabled t c x → code ≡ 0 → Case t c x code
+  case-2 : (Named c x → ⊥) → code ≡ 2 → Case t c x code
+  case-8 : NoGuard t c x → code ≡ 8 → Case t c x code
+  case-9 : OverLimit t c x → code ≡ 9 → Case t c x code
 
--- how the call ends: its numbers name nothing, no way leads to the link that they name, or as the rule at a way's end
-data Outcome (t : List ℕ) (c : ℕ) (x : Trial) (d : Done) : Type 0 where
-  unnamed : (Named c x → ⊥) → d .answer .code ≡ 2 → Outcome t c x d
-  nowhere : Named c x → (NamedPlace t c x → ⊥) → d .answer .code ≡ 8 → Outcome t c x d
-  there : (p : NamedPlace t c x) → Ends t c (treeIn t c) (guarded t c x p) (limited t c x p) d → Outcome t c x d
+module _ {t : List ℕ} {c : ℕ} {x : Trial} {code : ℕ} where
+  only-0 : Case t c x code → code ≡ 0 → Enabled t c x
+  only-0 (case-0 h a) z = h
+  only-0 (case-2 h a) z = absurd (omega arith)
+  only-0 (case-8 h a) z = absurd (omega arith)
+  only-0 (case-9 h a) z = absurd (omega arith)
+
+  only-2 : Case t c x code → code ≡ 2 → Named c x → ⊥
+  only-2 (case-0 h a) z = absurd (omega arith)
+  only-2 (case-2 h a) z = h
+  only-2 (case-8 h a) z = absurd (omega arith)
+  only-2 (case-9 h a) z = absurd (omega arith)
+
+  only-8 : Case t c x code → code ≡ 8 → NoGuard t c x
+  only-8 (case-0 h a) z = absurd (omega arith)
+  only-8 (case-2 h a) z = absurd (omega arith)
+  only-8 (case-8 h a) z = h
+  only-8 (case-9 h a) z = absurd (omega arith)
+
+  only-9 : Case t c x code → code ≡ 9 → OverLimit t c x
+  only-9 (case-0 h a) z = absurd (omega arith)
+  only-9 (case-2 h a) z = absurd (omega arith)
+  only-9 (case-8 h a) z = absurd (omega arith)
+  only-9 (case-9 h a) z = h
+
+  -- numbers that name nothing, and a guard that fails, leave one case
+  if-2 : Case t c x code → (Named c x → ⊥) → code ≡ 2
+  if-2 (case-0 h a) n = absurd (n (h .at .named))
+  if-2 (case-2 h a) n = a
+  if-2 (case-8 h a) n = absurd (n (h .named))
+  if-2 (case-9 h a) n = absurd (n (h .at .named))
+
+  if-8 : Case t c x code → NoGuard t c x → code ≡ 8
+  if-8 (case-0 h a) n =
+      let p = h .at in
+      no-tree (sym (n .fails p) ∙ accepted-fires mostHeight (p .leads .way) (p .named .rule) (treeIn t c) (h .tree) (h .is))
+  if-8 (case-2 h a) n = absurd (h (n .named))
+  if-8 (case-8 h a) n = a
+  if-8 (case-9 h a) n = no-tree (sym (n .fails (h .at)) ∙ h .holds)
+
+  -- and no case has another code
+  one-of-four : Case t c x code → among code (0 ∷ 2 ∷ 8 ∷ 9 ∷ []) ≡ true
+  one-of-four (case-0 h a) = rw a refl
+  one-of-four (case-2 h a) = rw a refl
+  one-of-four (case-8 h a) = rw a refl
+  one-of-four (case-9 h a) = rw a refl
 
 module _ {t : List ℕ} {c : ℕ} (w : Whole t c) (x : Trial) where
+  abbrev d : Done
+  d = tried t x
+
   -- AT EVERY PLACE that the numbers name
-  at-place : (p : NamedPlace t c x) → Ends t c (treeIn t c) (guarded t c x p) (limited t c x p) (tried t x)
+  at-place : (p : NamedPlace t c x) → Ends t c (treeIn t c) (guarded t c x p) (limited t c x p) d
   unfolding fireOf aimed
   at-place p =
       let n = p .named in
@@ -103,98 +133,60 @@ module _ {t : List ℕ} {c : ℕ} (w : Whole t c) (x : Trial) where
       (ends (guarded t c x p) (limited t c x p) (aim t c (n .rule) (n .link))
       (same-way (own-tree w) (n .rule) (n .link) (p .leads)))
 
+  place-case : (p : NamedPlace t c x) → Ends t c (treeIn t c) (guarded t c x p) (limited t c x p) d
+      → Case t c x (d .answer .code)
+  place-case p (done T′ e a f) = case-0 (record { at = p; tree = T′; is = e }) (ap (λ (r : Answer). r .code) a)
+  place-case p (high T′ e n a) = case-9 (record { at = p; tree = T′; holds = e; stopped = n }) a
+  place-case p (fails e n a) = case-8 (record { named = p .named; fails = λ q. ends-fails d (at-place q) a }) a
+
   -- the numbers name one link
   same-link : (n m : Named c x) → n .link ≡ m .link
   same-link n m = let e = sym (n .is-link) ∙ m .is-link in cc
 
-  by-link : (n : Named c x) (f : Firing) → FireEnds t c (treeIn t c) (n .rule) (n .link) f → tried t x ≡ fired t f
-      → Outcome t c x (tried t x)
+  link-case : (n : Named c x) (f : Firing) → FireEnds t c (treeIn t c) (n .rule) (n .link) f → d ≡ fired t f
+      → Case t c x (d .answer .code)
   unfolding fired
-  by-link n f (at-way p a) e = there (record { named = n; leads = p }) (at-place (record { named = n; leads = p }))
-  by-link n f (no-way none-leads) e =
-      nowhere n (λ p. none-leads (rw (same-link n (p .named)) (p .leads))) (ap (λ (d : Done). d .answer .code) e)
+  link-case n f (at-way l a) e =
+      let p : NamedPlace t c x = record { named = n; leads = l } in place-case p (at-place p)
+  link-case n f (no-way none-leads) e =
+      let nowhere : NamedPlace t c x → ⊥ = λ p. none-leads (rw (same-link n (p .named)) (p .leads)) in
+      case-8 (record { named = n; fails = λ p. absurd (nowhere p) }) (ap (λ (y : Done). y .answer .code) e)
 
-  by-names : (a : RuleIs) (b : LinkIs) → ruleOf (x .rule) ≡ a → linkOf c (x .holder) (x .side) ≡ b
-      → tried t x ≡ fired t (onRule a (λ r. onLink b (λ l. aimed t c r l))) → Outcome t c x (tried t x)
+  named-case : (a : RuleIs) (b : LinkIs) → ruleOf (x .rule) ≡ a → linkOf c (x .holder) (x .side) ≡ b
+      → d ≡ fired t (onRule a (λ r. onLink b (λ l. aimed t c r l))) → Case t c x (d .answer .code)
   unfolding fired
-  by-names rule-is.Unknown b p q e =
-      unnamed (λ n. let y = sym p ∙ n .is-rule in let z : _≡_ {A = ℕ} 0 1 = cc in omega arith)
-      (ap (λ (d : Done). d .answer .code) e)
-  by-names (rule-is.Known r) link-is.Unknown p q e =
-      unnamed (λ n. let y = sym q ∙ n .is-link in let z : _≡_ {A = ℕ} 0 1 = cc in omega arith)
-      (ap (λ (d : Done). d .answer .code) e)
-  by-names (rule-is.Known r) (link-is.Known l) p q e =
-      by-link (record { rule = r; link = l; is-rule = p; is-link = q }) (aimed t c r l)
+  named-case rule-is.Unknown b p q e =
+      case-2 (λ n. let y = sym p ∙ n .is-rule in let z : _≡_ {A = ℕ} 0 1 = cc in omega arith)
+      (ap (λ (y : Done). y .answer .code) e)
+  named-case (rule-is.Known r) link-is.Unknown p q e =
+      case-2 (λ n. let y = sym q ∙ n .is-link in let z : _≡_ {A = ℕ} 0 1 = cc in omega arith)
+      (ap (λ (y : Done). y .answer .code) e)
+  named-case (rule-is.Known r) (link-is.Known l) p q e =
+      link-case (record { rule = r; link = l; is-rule = p; is-link = q }) (aimed t c r l)
       (fire-ends (own-tree w) r l (link-in c (x .holder) (x .side) l q)) e
 
-  outcome : Outcome t c x (tried t x)
+  case : Case t c x (d .answer .code)
   unfolding fireOf firePlan
-  outcome = by-names (ruleOf (x .rule)) (linkOf c (x .holder) (x .side)) refl refl (rw (sized-slots (w .sized)) refl)
-
-  -- what the code tells
-  is-enabled : Outcome t c x (tried t x) → tried t x .answer .code ≡ 0 → Enabled t c x
-  is-enabled (unnamed n a) z = absurd (omega arith)
-  is-enabled (nowhere n p a) z = absurd (omega arith)
-  is-enabled (there p e) z = let o = ends-accepted (tried t x) e z in record { at = p; tree = o .0; is = o .1 }
-
-  is-over : Outcome t c x (tried t x) → tried t x .answer .code ≡ 9 → OverLimit t c x
-  is-over (unnamed n a) z = absurd (omega arith)
-  is-over (nowhere n p a) z = absurd (omega arith)
-  is-over (there p e) z =
-      let o = ends-high (tried t x) e z in record { at = p; tree = o .0; holds = o .1; stopped = o .2 }
-
-  no-guard : Outcome t c x (tried t x) → tried t x .answer .code ≡ 8 → NoGuard t c x
-  no-guard (unnamed n a) z = absurd (omega arith)
-  no-guard (nowhere n p a) z = record { named = n; fails = λ q. absurd (p q) }
-  no-guard (there p e) z = record { named = p .named; fails = λ q. ends-fails (tried t x) (at-place q) z }
-
-  not-named : Outcome t c x (tried t x) → tried t x .answer .code ≡ 2 → Named c x → ⊥
-  not-named (unnamed n a) z = n
-  not-named (nowhere n p a) z = absurd (omega arith)
-  not-named (there p e) z = absurd (ends-in-range (tried t x) e z)
-
-  -- and what tells the code
-  is-two : Outcome t c x (tried t x) → (Named c x → ⊥) → tried t x .answer .code ≡ 2
-  is-two (unnamed n a) h = a
-  is-two (nowhere n p a) h = absurd (h n)
-  is-two (there p e) h = absurd (h (p .named))
-
-  is-eight : Outcome t c x (tried t x) → NoGuard t c x → tried t x .answer .code ≡ 8
-  is-eight (unnamed n a) h = absurd (n (h .named))
-  is-eight (nowhere n p a) h = a
-  is-eight (there p e) h =
-      ends-eight (tried t x) (h .fails p)
-      (λ T′ q. accepted-fires mostHeight (p .leads .way) (p .named .rule) (treeIn t c) T′ q) e
+  case = named-case (ruleOf (x .rule)) (linkOf c (x .holder) (x .side)) refl refl (rw (sized-slots (w .sized)) refl)
 
   is-done : (e : Enabled t c x)
-      → (tried t x .answer ≡ accepted (word t changeWord) 0 0 0) × Fired t (tried t x .words) c (treeIn t c) (e .tree)
-  is-done e = ends-done (tried t x) (e .tree) (e .is) (at-place (e .at))
-
-  -- no other code
-  ends-listed : {g o : Option Tree} (d : Done) → Ends t c (treeIn t c) g o d → among (d .answer .code) (0 ∷ 2 ∷ 8 ∷ 9 ∷ []) ≡ true
-  ends-listed d (done T′ e a f) = rw a refl
-  ends-listed d (high T′ e n a) = rw a refl
-  ends-listed d (fails e n a) = rw a refl
-
-  is-listed : Outcome t c x (tried t x) → among (tried t x .answer .code) (0 ∷ 2 ∷ 8 ∷ 9 ∷ []) ≡ true
-  is-listed (unnamed n a) = rw a refl
-  is-listed (nowhere n p a) = rw a refl
-  is-listed (there p e) = ends-listed (tried t x) e
+      → (d .answer ≡ accepted (word t changeWord) 0 0 0) × Fired t (d .words) c (treeIn t c) (e .tree)
+  is-done e = ends-done d (e .tree) (e .is) (at-place (e .at))
 
   -- FIRE, EXACTLY
   pub fire-exact : FireIs t c x (tried t x)
   fire-exact =
       record {
-        accepts = record { whenever = λ e. ap (λ (r : Answer). r .code) (is-done e .0); only-if = is-enabled outcome };
+        accepts = record { whenever = λ e. ap (λ (r : Answer). r .code) (is-done e .0); only-if = only-0 case };
         answers = λ e. is-done e .0;
         acts = λ e. is-done e .1;
         nine = record {
-          whenever = λ h. ends-nine (tried t x) (h .tree) (h .holds) (h .stopped) (at-place (h .at));
-          only-if = is-over outcome;
+          whenever = λ h. ends-high d (h .tree) (h .holds) (h .stopped) (at-place (h .at));
+          only-if = only-9 case;
         };
-        eight = record { whenever = is-eight outcome; only-if = no-guard outcome };
-        two = record { whenever = is-two outcome; only-if = not-named outcome };
-        listed = is-listed outcome;
+        eight = record { whenever = if-8 case; only-if = only-8 case };
+        two = record { whenever = if-2 case; only-if = only-2 case };
+        listed = one-of-four case;
       }
 
 -- a fire that refuses what is enabled does not meet this

@@ -39,5 +39,5 @@ module _ {t : List ℕ} {c : ℕ} (w : Whole t c) where
         due = λ x. record { whenever = due-accepted x; only-if = accepted-due w x };
         taken = λ v n e. ap code (next-fires w v n e);
         first = first-accepted w;
-        none = none-accepted;
+        at-end = none-accepted;
       }
