@@ -8,7 +8,7 @@ use Rattle.demands.specs.Fires.{fires}
 use Rattle.demands.specs.Demands.{Demand1, Demand2, Demand3}
 use Rattle.demands.proofs.Open.{worth-told, rest-exactly}
 use Rattle.demands.proofs.First.Listed.{code-listed, refused-zeros, refused-is}
-use Rattle.demands.proofs.Second.Sorted.{ledger-sorted}
+use Rattle.demands.proofs.Second.Entries.{ledger-sorted, ledger-has, ledger-count}
 use Rattle.demands.proofs.Second.Sequence.{calls-ledger}
 use Rattle.demands.proofs.Second.Exact.{fire-exact}
 use Rattle.demands.proofs.Second.Order.{stated-order}
@@ -25,6 +25,8 @@ pub demand-2 : {t : List ℕ} {c : ℕ} → Whole t c → Demand2 t c
 demand-2 w =
     record {
       sorted = ledger-sorted w;
+      has = ledger-has w;
+      count = ledger-count w;
       as-list = calls-ledger w;
       fire = fire-exact w;
       order = stated-order w;

@@ -1,5 +1,5 @@
 -- Demand 2: on a sound table as on a sorted list, firings by their guards, tidying in the stated order.
-pub mod Sorted
+pub mod Entries
 pub mod Answers
 pub mod Ranks
 pub mod Amending

@@ -2,9 +2,11 @@
 use Prim.Native.Nat.{ℕ, _+_, _*_, _≤_, _<_}
 use mathlib.Core.Path.{_≡_}
 use mathlib.Core.Bool.{true}
+use mathlib.Core.Option.{some}
 use mathlib.Core.List.{List, _∷_}
-use Rattle.scope.specs.Table.{word, countWord, changeWord}
-use Rattle.scope.specs.Sound.{treeIn}
+use lib.ListN.{length}
+use Rattle.scope.specs.Table.{word, countWord, changeWord, slotAt}
+use Rattle.scope.specs.Sound.{batchAt, treeIn}
 use Rattle.scope.specs.Answers.{accepted}
 use Rattle.scope.specs.Walk.{walkOf}
 use Rattle.scope.specs.Find.{findAnswer}
@@ -13,7 +15,9 @@ use Rattle.scope.specs.Tidy.{quiet, tidyAnswer, tidyTable}
 use Rattle.scope.specs.Calls.{Call, answerOf, tableOf, answers, after}
 use Rattle.spelling.specs.Whole.{Whole}
 use Rattle.tree.specs.Shape.{Quiet, Balanced}
+use Rattle.ledger.specs.Entries.{lookup}
 use Rattle.ledger.specs.Sorted.{Sorted}
+use Rattle.ledger.specs.OfTree.{entryOf}
 use Rattle.demands.specs.Exactly.{Exactly}
 use Rattle.demands.specs.Listed.{codes, among, Refuses, onlyCode}
 use Rattle.demands.specs.Fires.{worthIn, Trial, tried, Accepted, fires, acceptedIn}
@@ -35,8 +39,11 @@ pub record Demand1 (x : Call) (t : List ℕ) : Type 0 where
 
 -- DEMAND 2, of a sound table t of c slots
 pub record Demand2 (t : List ℕ) (c : ℕ) : Type 0 where
-  -- its ledger, the records from left to right, is sorted by stamp
+  -- its ledger is sorted by stamp, has the record of every slot in use, and as many records as word 1 counts
   pub sorted : Sorted (ledgerOf t c .entries)
+  pub has : (k : ℕ) → 1 ≤ k → k ≤ c → (slotAt t k .state ≡ 0 → ⊥)
+      → lookup (slotAt t k .key) (ledgerOf t c .entries) ≡ some (entryOf (batchAt t k))
+  pub count : length (ledgerOf t c .entries) ≡ word t countWord
   -- any list of calls answers as on the ledger and leaves what it leaves of the ledger; only slots and how many were
   -- visited are not compared, and of the slot of a rank it is the record in it that is
   pub as-list : (xs : List Call) → SameCalls xs t c
