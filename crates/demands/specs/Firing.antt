@@ -8,7 +8,8 @@ use Rattle.scope.specs.Numbers.{rootLink, ruleOf, linkOf}
 use Rattle.scope.specs.Table.{word, changeWord}
 use Rattle.scope.specs.Tree.{Tree}
 use Rattle.scope.specs.Sound.{treeIn}
-use Rattle.scope.specs.Answers.{Done, accepted}
+use Rattle.scope.specs.Answers.{Done, codeOf, accepted, refused}
+use Rattle.scope.specs.declared.answer.Refusal.the-variants.{OutOfRange, GuardFails, TooHigh}
 use Rattle.scope.specs.declared.rule.Rule.{Rule}
 use Rattle.scope.specs.declared.rule.RuleIs.the-variants as rule-is
 use Rattle.scope.specs.declared.side.Link.{Link}
@@ -66,8 +67,8 @@ pub record FireIs (t : List ℕ) (c : ℕ) (x : Trial) (d : Done) : Type 0 where
   -- every record in its slot, words 1 to 3 and the free slots as before
   pub answers : Enabled t c x → d .answer ≡ accepted (word t changeWord) 0 0 0
   pub acts : (e : Enabled t c x) → Fired t (d .words) c (treeIn t c) (e .tree)
-  -- each refusal has its own reason, and there are no others
-  pub nine : Exactly (d .answer .code ≡ 9) (OverLimit t c x)
-  pub eight : Exactly (d .answer .code ≡ 8) (NoGuard t c x)
-  pub two : Exactly (d .answer .code ≡ 2) (Named c x → ⊥)
-  pub listed : among (d .answer .code) (0 ∷ 2 ∷ 8 ∷ 9 ∷ []) ≡ true
+  -- it is refused with 9, with 8 or with 2, each exactly for its reason, and with no other code
+  pub too-high : Exactly (d ≡ refused t TooHigh) (OverLimit t c x)
+  pub guard-fails : Exactly (d ≡ refused t GuardFails) (NoGuard t c x)
+  pub out-of-range : Exactly (d ≡ refused t OutOfRange) (Named c x → ⊥)
+  pub no-other : among (d .answer .code) (0 ∷ codeOf OutOfRange ∷ codeOf GuardFails ∷ codeOf TooHigh ∷ []) ≡ true
