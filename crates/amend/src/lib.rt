@@ -5,7 +5,6 @@ use scope::Amending;
 use scope::Answer;
 use scope::Gate;
 use scope::Refusal;
-use scope::Slot;
 use scope::Walk;
 ghost use Rattle.scope.specs.Amend.{amendingAt, amendPlan, amended};
 ghost use Rattle.scope.specs.Calls.{Amend, Promise};
@@ -51,16 +50,7 @@ pub fn change_record(t: &mut [u32], k: usize, pieces: u32, state: u32) -> Answer
 {
     let change = words::change(t);
     let s = words::slot_at(t, k);
-    let new = Slot {
-        state,
-        key: s.key,
-        pieces,
-        left: s.left,
-        right: s.right,
-        lefth: s.lefth,
-        righth: s.righth,
-        last: s.last,
-    };
+    let new = s.with_record(state, s.key, pieces);
     words::put_slot(t, k, new);
     next_change(t, change, k)
 }

@@ -4,7 +4,7 @@ use mathlib.Core.Bool.{cond}
 use mathlib.Core.List.{List, [], _∷_}
 use lib.Dec.{eqb}
 use Rattle.scope.specs.Numbers.{other}
-use Rattle.scope.specs.Table.{son}
+use Rattle.scope.specs.Table.{son, withLinks}
 use Rattle.scope.specs.Edits.{Part, sonOn, registerOn, Edit}
 use Rattle.scope.specs.Rules.{seen}
 use Rattle.scope.specs.declared.rule.Pair.{Pair}
@@ -14,26 +14,8 @@ use Rattle.scope.specs.declared.slot.Slot.{Slot}
 
 -- a slot of the record in x, with these links and registers seen from a side
 unfoldable pub shape : Side → Slot → ℕ → ℕ → Pair → Slot
-shape Left x near far p = record {
-  state = x .state;
-  key = x .key;
-  pieces = x .pieces;
-  left = near;
-  right = far;
-  lefth = p .near;
-  righth = p .far;
-  last = x .last;
-}
-shape Right x near far p = record {
-  state = x .state;
-  key = x .key;
-  pieces = x .pieces;
-  left = far;
-  right = near;
-  lefth = p .far;
-  righth = p .near;
-  last = x .last;
-}
+shape Left x near far p = withLinks x near far (p .near) (p .far)
+shape Right x near far p = withLinks x far near (p .far) (p .near)
 
 -- a slot with another number in a part
 unfoldable pub withPart : Part → ℕ → Slot → Slot

@@ -3,7 +3,7 @@ use Prim.Native.Nat.{ℕ, _+_}
 use mathlib.Core.Path.{_≡_}
 use mathlib.Core.List.{List}
 use Rattle.scope.specs.Table.{slotAt}
-use Rattle.scope.specs.Fit.{zeroSlot}
+use Rattle.scope.specs.Table.{zeroSlot}
 use Rattle.scope.specs.Tree.{Tree, times, same}
 use Rattle.scope.specs.Drop.{ifMay, dropAt, lifted, replaced}
 use Rattle.scope.specs.declared.side.Link.{Link}

@@ -3,8 +3,8 @@ use Prim.Native.Nat.{ℕ, _-_}
 use mathlib.Core.Path.{_≡_, sym}
 use mathlib.Core.List.{List}
 use Rattle.scope.specs.Table.{word, countWord, changeWord, slotAt, withSlot}
-use Rattle.scope.specs.Fit.{zeroSlot}
-use Rattle.scope.specs.Drop.{relinked, withRecord, dropped}
+use Rattle.scope.specs.Table.{zeroSlot}
+use Rattle.scope.specs.Drop.{relinked, withRecordOf, dropped}
 use Rattle.scope.specs.declared.slot.Slot.{Slot}
 use Rattle.scope.specs.declared.side.Link.{Link}
 use Rattle.scope.specs.declared.answer.Answer.{Answer}
@@ -23,7 +23,7 @@ module _ (t : List ℕ) (slot : ℕ) (link : Link) {y u : List ℕ} {count chang
 
   -- m is the least, x is t with its record in the slot, y is x with its right son at its link
   pub replaced-by : (least : ℕ) {m : Slot} {right : ℕ} {x : List ℕ} → m ≡ slotAt t least → right ≡ m .right
-      → x ≡ withSlot t slot (withRecord (slotAt t slot) m) → y ≡ relinked x link right
+      → x ≡ withSlot t slot (withRecordOf (slotAt t slot) m) → y ≡ relinked x link right
       → Does (settled (withSlot y least zeroSlot) (count - 1) change least) a u
       → Does (dropped t (Replace slot least link)) a u
   unfolding dropped

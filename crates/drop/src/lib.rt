@@ -4,13 +4,12 @@ use scope::Answer;
 use scope::Dropping;
 use scope::Link;
 use scope::Slot;
-use scope::State;
 ghost use mathlib.Core.Path.{_≡_};
 ghost use Prim.Native.Nat.{_-_, _≤_, _<_};
 ghost use Rattle.scope.specs.Numbers.{lastChange};
 ghost use Rattle.scope.specs.Table.{slotAt, withSlot, InTable};
-ghost use Rattle.scope.specs.Fit.{zeroSlot};
-ghost use Rattle.scope.specs.Drop.{relinked, withRecord, dropped};
+ghost use Rattle.scope.specs.Table.{zeroSlot};
+ghost use Rattle.scope.specs.Drop.{relinked, withRecordOf, dropped};
 ghost use Rattle.scope.specs.Calls.{Drop, Promise};
 ghost use Rattle.scope.specs.declared.outcome.Dropping.the-variants.{Lift, Replace};
 ghost use Rattle.gate.specs.Ends.{Does, settled};
@@ -33,38 +32,19 @@ pub fn relink(t: &mut [u32], link: Link, son: usize)
 // The slot takes another's record, and keeps its own links and registers.
 pub fn take_record(t: &mut [u32], slot: usize, from: Slot)
     requires { ⌜ InTable (now t) slot ⌝ }
-    ensures { λ _. ⌜ now (t .exit) ≡ withSlot (now (t .entry)) slot (withRecord (slotAt (now (t .entry)) slot) from) ⌝ }
+    ensures { λ _. ⌜ now (t .exit) ≡ withSlot (now (t .entry)) slot (withRecordOf (slotAt (now (t .entry)) slot) from) ⌝ }
 {
     let s = words::slot_at(t, slot);
-    let new = Slot {
-        state: from.state,
-        key: from.key,
-        pieces: from.pieces,
-        left: s.left,
-        right: s.right,
-        lefth: s.lefth,
-        righth: s.righth,
-        last: s.last,
-    };
+    let new = s.with_record(from.state, from.key, from.pieces);
     words::put_slot(t, slot, new);
 }
 
-// The slot is freed: eight zeros, one record fewer than before, one change more.
+// The slot is freed: zeros, one record fewer than before, one change more.
 pub fn vacate(t: &mut [u32], slot: usize, count: usize, change: u32) -> Answer
     requires { ⌜ InTable (now t) slot × (1 ≤ count) × (count ≤ 4095) × (change < lastChange) ⌝ }
     ensures { λ r. ⌜ Does (settled (withSlot (now (t .entry)) slot zeroSlot) (count - 1) change slot) r (now (t .exit)) ⌝ }
 {
-    let zeros = Slot {
-        state: State::FREE,
-        key: 0,
-        pieces: 0,
-        left: 0,
-        right: 0,
-        lefth: 0,
-        righth: 0,
-        last: 0,
-    };
-    words::put_slot(t, slot, zeros);
+    words::put_slot(t, slot, Slot::blank());
     gate::settle(t, count - 1, change, slot)
 }
 

@@ -2,6 +2,7 @@
 use crate::tests::header_ok;
 use scope::Answer;
 use scope::Gate;
+use scope::Head;
 use scope::Refusal;
 use scope::Slot;
 use scope::Slots;
@@ -15,7 +16,7 @@ ghost use Rattle.scope.specs.Answers.{codeOf, refusal, accepted, gate};
 pub fn capacity(n: usize) -> SlotsIs
     ensures { λ r. ⌜ r ≡ slotsIn n ⌝ }
 {
-    if n % Slot::WORDS == 4 {
+    if n % Slot::WORDS == Head::WORDS {
         Slots::of(n / Slot::WORDS)
     } else {
         SlotsIs::Outside

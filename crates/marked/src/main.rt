@@ -1,5 +1,16 @@
-// M1 to M4 and M6 of document 01, run over the code: each line is the five numbers of a call, or the words of a table; after a tidy the true height too.
+// M1 to M4 and M6 of document 01, run over the code: a line is the five numbers of a call, or the words of a table.
+// After a tidy it says the true height too.
 use scope::Answer;
+use scope::Head;
+use scope::Slot;
+
+// The words of tables of three and of four slots.
+const THREE: usize = Head::WORDS + 3 * Slot::WORDS;
+
+const FOUR: usize = Head::WORDS + 4 * Slot::WORDS;
+
+// Where the left register of slot 2 stands.
+const SECOND_LEFTH: usize = Head::WORDS + Slot::WORDS + Slot::LEFTH;
 
 fn number(n: u64) {
     io::print_decimal(1, n);
@@ -50,7 +61,7 @@ fn fire_four(t: &mut [u32]) {
 }
 
 fn m1() {
-    let mut t = [0u32; 28];
+    let mut t = [0u32; THREE];
     say(index::post(&mut t, 480, 1200, 1));
     say(index::post(&mut t, 510, 900, 1));
     say(index::post(&mut t, 540, 750, 1));
@@ -59,7 +70,7 @@ fn m1() {
 }
 
 fn m2() {
-    let mut t = [0u32; 28];
+    let mut t = [0u32; THREE];
     pour(&mut t, 540);
     pour(&mut t, 480);
     pour(&mut t, 510);
@@ -77,7 +88,7 @@ fn pour_four(t: &mut [u32]) {
 }
 
 fn m3() {
-    let mut t = [0u32; 36];
+    let mut t = [0u32; FOUR];
     pour_four(&mut t);
     say(index::worth(&t));
     say(index::tidy(&mut t, 10));
@@ -86,7 +97,7 @@ fn m3() {
 }
 
 fn m4() {
-    let mut t = [0u32; 36];
+    let mut t = [0u32; FOUR];
     pour_four(&mut t);
     say(index::fire(&mut t, 1, 1, 0));
     say(index::fire(&mut t, 2, 1, 0));
@@ -99,11 +110,11 @@ fn m4() {
 
 // A chain to the left whose second node's left register is `height`; rule 1 at the root.
 fn m6(height: u32) {
-    let mut t = [0u32; 28];
+    let mut t = [0u32; THREE];
     pour(&mut t, 30);
     pour(&mut t, 20);
     pour(&mut t, 10);
-    t[17] = height;
+    t[SECOND_LEFTH] = height;
     say(index::fire(&mut t, 1, 0, 0));
     show(&t);
 }

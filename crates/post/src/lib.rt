@@ -70,16 +70,7 @@ pub fn plan_post(t: &[u32], key: u32, pieces: u32, state: u32) -> Posting
 pub fn leaf(key: u32, pieces: u32, state: u32) -> Slot
     ensures { λ r. ⌜ r ≡ leafSlot key pieces state ⌝ }
 {
-    Slot {
-        state,
-        key,
-        pieces,
-        left: 0,
-        right: 0,
-        lefth: 0,
-        righth: 0,
-        last: 0,
-    }
+    Slot::blank().with_record(state, key, pieces)
 }
 
 // The leaf in slot k, and k in its link.

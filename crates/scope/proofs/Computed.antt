@@ -18,7 +18,7 @@ use Rattle.scope.specs.Worth.{negOf, posOf, NEG, POS, BAL, RBAL, worthOf
 use Rattle.scope.specs.Rules.{guardAt, highestAt, actionAt}
 use Rattle.scope.specs.Fire.{takeOf, judged, aimW, aimU, aimV, aim, aimed, firePlan, fired, fireOf}
 use Rattle.scope.specs.Tidy.{holdsAt, dueAt, passes, rulesFrom, slotsFrom, nextOf, quiet, linkFrom, linkTo, firedAt, tidyFrom, tidied, tidyOf, rulesFired}
-use Rattle.scope.specs.Calls.{answerOf, tableOf, answers, after}
+use Rattle.scope.specs.Calls.{answers, after}
 use Rattle.scope.proofs.Script.{Row, rows}
 use Rattle.scope.proofs.Marked.{marked, worked}
 use Rattle.scope.proofs.Further.{further}
@@ -49,7 +49,7 @@ unfolding ruleOf sideOf linkOf slotsOf slotsIn slotAt withSlot linkAt written wr
     dropped dropOf checkAnswer pick rankOf ranked rankAnswer totalOf totalAnswer negOf posOf NEG POS BAL RBAL
     worthOf worthAnswer guardAt highestAt actionAt takeOf judged aimW aimU aimV aim aimed firePlan fired fireOf
     holdsAt dueAt passes rulesFrom slotsFrom nextOf quiet linkFrom linkTo firedAt tidyFrom tidied tidyOf rulesFired
-    answerOf tableOf answers after
+    answers after
 computed =
     record {
       marked-holds = rows marked refl;

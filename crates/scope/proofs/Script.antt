@@ -9,7 +9,7 @@ use lib.Dec.{eqb}
 use borrow.Author.Tests.{eqb-true}
 use Rattle.scope.proofs.Bools.{and-l, and-r}
 use Rattle.scope.specs.Calls.{Call, Post, answers}
-use Rattle.scope.specs.Table.{slotWords, tableWords, base}
+use Rattle.scope.specs.Table.{headWords, slotWords, tableWords, base}
 use Rattle.scope.specs.declared.answer.Answer.{Answer}
 
 -- a started table of c slots
@@ -35,9 +35,19 @@ codes xs t = map (λ a. a .code) (answers xs t)
 abbrev pub values : List Call → List ℕ → List ℕ
 values xs t = map (λ a. a .value) (answers xs t)
 
--- the header, and the eight words of slot k
+-- the words of a header; of a slot, whose last word is 0; and of a blank slot
+abbrev pub headOf : ℕ → ℕ → ℕ → ℕ → List ℕ
+headOf root count change zero = root ∷ count ∷ change ∷ zero ∷ []
+
+abbrev pub wordsOf : ℕ → ℕ → ℕ → ℕ → ℕ → ℕ → ℕ → List ℕ
+wordsOf state key pieces left right lefth righth = state ∷ key ∷ pieces ∷ left ∷ right ∷ lefth ∷ righth ∷ 0 ∷ []
+
+abbrev pub blank : List ℕ
+blank = replicate slotWords 0
+
+-- the header, and the words of slot k
 abbrev pub header : List ℕ → List ℕ
-header t = take 4 t
+header t = take headWords t
 
 abbrev pub slot : ℕ → List ℕ → List ℕ
 slot k t = take slotWords (drop (base k) t)

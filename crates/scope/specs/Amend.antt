@@ -5,7 +5,7 @@ use mathlib.Core.List.{List}
 use lib.ListN.{set}
 use lib.Dec.{ltb}
 use Rattle.scope.specs.Numbers.{lastChange}
-use Rattle.scope.specs.Table.{word, changeWord, slotAt, withSlot}
+use Rattle.scope.specs.Table.{word, changeWord, slotAt, withRecord, withSlot}
 use Rattle.scope.specs.Fit.{headerOk}
 use Rattle.scope.specs.Answers.{Done, refused, accepted, gate}
 use Rattle.scope.specs.Walk.{walkOf}
@@ -36,16 +36,7 @@ amendPlan t key pieces state =
 
 -- the slot with other pieces and another state
 abbrev pub withPieces : Slot → ℕ → ℕ → Slot
-withPieces s pieces state = record {
-  state = state;
-  key = s .key;
-  pieces = pieces;
-  left = s .left;
-  right = s .right;
-  lefth = s .lefth;
-  righth = s .righth;
-  last = s .last;
-}
+withPieces s pieces state = withRecord s state (s .key) pieces
 
 unfoldable pub amended : List ℕ → ℕ → ℕ → Amending → Done
 amended t pieces state (Refuse why) = refused t why

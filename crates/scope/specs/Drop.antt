@@ -5,8 +5,9 @@ use mathlib.Core.List.{List}
 use lib.ListN.{set}
 use lib.Dec.{ltb, eqb}
 use Rattle.scope.specs.Numbers.{lastChange}
-use Rattle.scope.specs.Table.{word, countWord, changeWord, slotAt, withSlot, linkAt, registerAt}
-use Rattle.scope.specs.Fit.{fitSlot, headerOk, zeroSlot}
+use Rattle.scope.specs.Table.{word, countWord, changeWord, slotAt, withRecord, withSlot, linkAt, registerAt}
+use Rattle.scope.specs.Fit.{fitSlot, headerOk}
+use Rattle.scope.specs.Table.{zeroSlot}
 use Rattle.scope.specs.Answers.{Done, refused, accepted, gate}
 use Rattle.scope.specs.Walk.{walkOf}
 use Rattle.scope.specs.declared.slot.Slot.{Slot}
@@ -69,18 +70,9 @@ relinked t link son =
     cond (not (eqb son 0) || eqb (link .holder) 0) (set t (linkAt link) son)
     (set (set t (linkAt link) son) (registerAt (link .holder) (link .side)) 0)
 
--- the slot with the record of another, its own links and registers kept
-abbrev pub withRecord : Slot → Slot → Slot
-withRecord s from = record {
-  state = from .state;
-  key = from .key;
-  pieces = from .pieces;
-  left = s .left;
-  right = s .right;
-  lefth = s .lefth;
-  righth = s .righth;
-  last = s .last;
-}
+-- the slot with the record of another
+abbrev pub withRecordOf : Slot → Slot → Slot
+withRecordOf s from = withRecord s (from .state) (from .key) (from .pieces)
 
 -- with at most one son
 abbrev pub lifted : List ℕ → ℕ → Link → ℕ → List ℕ
@@ -94,7 +86,7 @@ lifted t slot link son =
 abbrev pub replaced : List ℕ → ℕ → ℕ → Link → List ℕ
 replaced t slot least link =
     -- the dropped slot takes m's state, key and pieces
-    let taken = withSlot t slot (withRecord (slotAt t slot) (slotAt t least)) in
+    let taken = withSlot t slot (withRecordOf (slotAt t slot) (slotAt t least)) in
     -- m's right son takes m's link, and the register there becomes 0 if that is empty
     let linked = relinked taken link (slotAt t least .right) in
     -- m's slot is zeroed

@@ -28,16 +28,11 @@ fitSlot c s =
     stateOk (s .state) && not (eqb (s .key) 0) && piecesOk (s .pieces)
     && linkOk c (s .left) (s .lefth) && linkOk c (s .right) (s .righth) && tailOk (s .last)
 
--- eight zeros
+-- every word is zero
 unfoldable pub blankSlot : Slot → Bool
 blankSlot s =
     eqb (s .state) 0 && eqb (s .key) 0 && eqb (s .pieces) 0 && eqb (s .left) 0
     && eqb (s .right) 0 && eqb (s .lefth) 0 && eqb (s .righth) 0 && eqb (s .last) 0
-
--- the eight zeros themselves
-abbrev pub zeroSlot : Slot
-zeroSlot =
-    record { state = 0; key = 0; pieces = 0; left = 0; right = 0; lefth = 0; righth = 0; last = 0 }
 
 -- root and count are at most c, and word 3 is 0
 unfoldable pub headerOk : ℕ → List ℕ → Bool

@@ -5,7 +5,7 @@ use mathlib.Core.List.{List}
 use lib.ListN.{set}
 use lib.Dec.{ltb, eqb}
 use Rattle.scope.specs.Numbers.{lastChange}
-use Rattle.scope.specs.Table.{word, countWord, changeWord, slotAt, withSlot, linkAt}
+use Rattle.scope.specs.Table.{word, countWord, changeWord, slotAt, zeroSlot, withRecord, withSlot, linkAt}
 use Rattle.scope.specs.Fit.{stateOk, piecesOk, blankSlot, headerOk}
 use Rattle.scope.specs.Answers.{Done, refused, accepted, gate}
 use Rattle.scope.specs.Walk.{walkOf}
@@ -54,10 +54,9 @@ unfoldable pub postPlan : List ℕ → ℕ → ℕ → ℕ → Posting
 postPlan t key pieces state =
     posting (gate t (recordOk key pieces state) (λ c. headerOk c t)) (λ c. postingAt t c (walkOf t c key))
 
--- the new leaf
+-- the new leaf: no sons, both registers 0
 abbrev pub leafSlot : ℕ → ℕ → ℕ → Slot
-leafSlot key pieces state =
-    record { state = state; key = key; pieces = pieces; left = 0; right = 0; lefth = 0; righth = 0; last = 0 }
+leafSlot key pieces state = withRecord zeroSlot state key pieces
 
 -- the leaf in slot k, its link, one record more, one change more; the register above it is not written
 unfoldable pub hung : List ℕ → ℕ → Link → Slot → List ℕ

@@ -29,18 +29,21 @@ changeWord = 2
 abbrev pub zeroWord : ℕ
 zeroWord = 3
 
--- how many words a slot has, and a table of c slots
+-- how many words there are before the slots, in a slot, and in a table of c slots
+abbrev pub headWords : ℕ
+headWords = 4
+
 abbrev pub slotWords : ℕ
 slotWords = 8
 
 abbrev pub tableWords : ℕ → ℕ
-tableWords c = 4 + slotWords * c
+tableWords c = headWords + slotWords * c
 
 -- a table of n words has c slots if n is 4 + 8c
 unfoldable pub slotsIn : ℕ → SlotsIs
-slotsIn n = cond (eqb (n % slotWords) 4) (slotsOf (n / slotWords)) Outside
+slotsIn n = cond (eqb (n % slotWords) headWords) (slotsOf (n / slotWords)) Outside
 
--- where the eight words of slot k begin; slots are counted from 1
+-- where the words of slot k begin; slots are counted from 1
 abbrev pub base : ℕ → ℕ
 base k = tableWords (k - 1)
 
@@ -66,12 +69,48 @@ slotAt t k = record {
   last = word t (base k + 7);
 }
 
--- the table with the eight words of s in slot k
-unfoldable pub withSlot : List ℕ → ℕ → Slot → List ℕ
-withSlot t k s =
-    set (set (set (set (set (set (set (set t
-    (base k) (s .state)) (base k + 1) (s .key)) (base k + 2) (s .pieces)) (base k + 3) (s .left))
-    (base k + 4) (s .right)) (base k + 5) (s .lefth)) (base k + 6) (s .righth)) (base k + 7) (s .last)
+-- a slot of numbers by their places
+abbrev pub slotOf : (ℕ → ℕ) → Slot
+slotOf g = record {
+  state = g 0;
+  key = g 1;
+  pieces = g 2;
+  left = g 3;
+  right = g 4;
+  lefth = g 5;
+  righth = g 6;
+  last = g 7;
+}
+
+-- a slot of zeros
+abbrev pub zeroSlot : Slot
+zeroSlot = slotOf (λ f. 0)
+
+-- a slot with another record, its links, registers and last word kept
+abbrev pub withRecord : Slot → ℕ → ℕ → ℕ → Slot
+withRecord s state key pieces = record {
+  state = state;
+  key = key;
+  pieces = pieces;
+  left = s .left;
+  right = s .right;
+  lefth = s .lefth;
+  righth = s .righth;
+  last = s .last;
+}
+
+-- a slot with other links and registers, its record and last word kept
+abbrev pub withLinks : Slot → ℕ → ℕ → ℕ → ℕ → Slot
+withLinks s left right lefth righth = record {
+  state = s .state;
+  key = s .key;
+  pieces = s .pieces;
+  left = left;
+  right = right;
+  lefth = lefth;
+  righth = righth;
+  last = s .last;
+}
 
 -- a slot's son and register on a side
 abbrev pub son : Slot → Side → ℕ
@@ -101,6 +140,22 @@ put i x = record { place = i; what = x }
 unfoldable pub written : List ℕ → List Write → List ℕ
 written t [] = t
 written t (w ∷ ws) = written (set t (w .place) (w .what)) ws
+
+-- the words of s, written one after the other into slot k
+abbrev pub slotWrites : ℕ → Slot → List Write
+slotWrites k s =
+    put (base k) (s .state)
+    ∷ put (base k + 1) (s .key)
+    ∷ put (base k + 2) (s .pieces)
+    ∷ put (base k + 3) (s .left)
+    ∷ put (base k + 4) (s .right)
+    ∷ put (base k + 5) (s .lefth)
+    ∷ put (base k + 6) (s .righth)
+    ∷ put (base k + 7) (s .last)
+    ∷ []
+
+unfoldable pub withSlot : List ℕ → ℕ → Slot → List ℕ
+withSlot t k s = written t (slotWrites k s)
 
 -- slot k lies whole in the table
 pub record InTable (t : List ℕ) (k : ℕ) : Type 0 where

@@ -33,6 +33,7 @@ pub use side::Link;
 pub use side::LinkIs;
 pub use side::Side;
 pub use side::SideIs;
+pub use slot::Head;
 pub use slot::Slot;
 pub use slot::State;
 pub use slots::Slots;

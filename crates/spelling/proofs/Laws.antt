@@ -9,7 +9,7 @@ use lib.ListN.{length}
 use lib.Dec.{eqb, leb}
 use Rattle.scope.proofs.Bools.{and-l, and-r, by-bool}
 use Rattle.scope.specs.Numbers.{slotsOf}
-use Rattle.scope.specs.Table.{slotWords, word, rootWord, countWord, slotsIn, base, slotAt, son, linkAt, linkPlace, registerAt, registerPlace, InTable}
+use Rattle.scope.specs.Table.{headWords, slotWords, word, rootWord, countWord, slotsIn, base, slotAt, son, linkAt, linkPlace, registerAt, registerPlace, InTable}
 use Rattle.scope.specs.Fit.{stateOk, piecesOk, linkOk, tailOk, fitSlot, headerOk}
 use Rattle.scope.specs.Answers.{gate, onSlots, admit}
 use Rattle.scope.specs.declared.slot.Slot.{Slot}
@@ -38,10 +38,10 @@ slots-in-range n s e =
 pub slots-room : (t : List ℕ) (s : Slots) → slotsIn (length t) ≡ Within s → Sized t (s .count)
 unfolding slotsIn
 slots-room t s e =
-    by-bool (eqb (length t % slotWords) 4)
+    by-bool (eqb (length t % slotWords) headWords)
     (λ p. let z = simp p at e in
     let k = slots-in-range (length t / slotWords) s z in
-    record { room = omega (arith, eqb-true (length t % slotWords) 4 p); some = omega arith; most = omega arith })
+    record { room = omega (arith, eqb-true (length t % slotWords) headWords p); some = omega arith; most = omega arith })
     (λ p. let z = simp p at e in let y : _≡_ {A = ℕ} 0 1 = cc in absurd (omega arith))
 
 -- what a good header tells

@@ -1,5 +1,7 @@
 -- Laws of words that spell a tree, from what a passed test tells to the table of zeros.
 pub mod Laws
+pub mod Fits
+pub mod Slots
 pub mod Spell
 pub mod Exact
 pub mod Frame
@@ -7,4 +9,3 @@ pub mod Zeros
 pub mod Opened
 pub mod Wrote
 pub mod Once
-pub mod Fits

@@ -4,14 +4,13 @@ use mathlib.Core.Path.{_≡_, refl, sym}
 use mathlib.Core.Bool.{true}
 use mathlib.Core.List.{List}
 use native.Mathlib.Omega.{arith}
-use lib.ListN.{length, replicate, getD-replicate}
+use lib.ListN.{replicate, getD-replicate}
 use borrow.Author.Tests.{le-leb}
-use Rattle.scope.specs.Table.{tableWords, word, base, slotAt}
+use Rattle.scope.specs.Table.{tableWords, rootWord, countWord, zeroWord, word, base, slotAt}
 use Rattle.scope.specs.Fit.{headerOk, blankSlot}
 use Rattle.scope.specs.Tree.{leaf, size, times, Ordered}
-use Rattle.scope.specs.Sound.{Spells, soundTable, Sound}
-use Rattle.spelling.specs.Ready.{Sized}
-use Rattle.spelling.proofs.Exact.{sound-test}
+use Rattle.scope.specs.Sound.{Spells, Sound}
+use Rattle.spelling.proofs.Slots.{words-slot}
 
 -- the words of a table of c slots, all 0
 abbrev pub zeros : ℕ → List ℕ
@@ -23,22 +22,11 @@ module _ (c : ℕ) where
 
   good-header : headerOk c (zeros c) ≡ true
   unfolding headerOk
-  good-header = rw (at 0 (omega arith), at 1 (omega arith), at 3 (omega arith), le-leb 0 c (omega arith)) refl
+  good-header = rw (at rootWord (omega arith), at countWord (omega arith), at zeroWord (omega arith), le-leb 0 c (omega arith)) refl
 
   blank : (k : ℕ) → 1 ≤ k → k ≤ c → blankSlot (slotAt (zeros c) k) ≡ true
-  unfolding blankSlot slotAt
-  blank k p q =
-      rw (
-        at (base k) (omega arith),
-        at (base k + 1) (omega arith),
-        at (base k + 2) (omega arith),
-        at (base k + 3) (omega arith),
-        at (base k + 4) (omega arith),
-        at (base k + 5) (omega arith),
-        at (base k + 6) (omega arith),
-        at (base k + 7) (omega arith),
-      )
-      refl
+  unfolding blankSlot
+  blank k p q = rw (words-slot (zeros c) k (λ f. 0) (λ f h. at (base k + f) (omega arith))) refl
 
   -- it holds no record
   pub zeros-hold : Sound (zeros c) c
@@ -46,16 +34,9 @@ module _ (c : ℕ) where
   zeros-hold = record {
     header = good-header;
     tree = leaf;
-    reached = at 0 (omega arith);
+    reached = at rootWord (omega arith);
     once = λ k p q. omega arith;
-    count = sym (at 1 (omega arith));
+    count = sym (at countWord (omega arith));
     order = tt;
     rest = λ k p q e. blank k p q;
   }
-
-  pub zeros-sound : soundTable (zeros c) c ≡ true
-  zeros-sound = sound-test (zeros c) c zeros-hold
-
--- so is the table that start leaves
-pub started-sound : {t : List ℕ} {c : ℕ} → Sized t c → soundTable (replicate (length t) 0) c ≡ true
-started-sound {t} {c} s = rw (← s .room) (zeros-sound c)

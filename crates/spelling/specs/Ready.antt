@@ -3,12 +3,12 @@ use Prim.Native.Nat.{ℕ, _≤_}
 use mathlib.Core.Path.{_≡_}
 use mathlib.Core.List.{List}
 use lib.ListN.{length}
-use Rattle.scope.specs.Table.{tableWords, word, rootWord, countWord}
+use Rattle.scope.specs.Table.{headWords, tableWords, word, rootWord, countWord}
 use Rattle.scope.specs.Post.{freeSlot}
 
--- the four words of the header are there
+-- the words of the header are there
 abbrev pub Headed : List ℕ → Type 0
-Headed t = 4 ≤ length t
+Headed t = headWords ≤ length t
 
 -- a table of c slots
 pub record Sized (t : List ℕ) (c : ℕ) : Type 0 where

@@ -1,4 +1,5 @@
 // Reading words, slots and links.
+use scope::Head;
 use scope::Link;
 use scope::Side;
 use scope::Slot;
@@ -34,7 +35,7 @@ pub fn root(t: &[u32]) -> usize
     requires { ⌜ Headed (now t) ⌝ }
     ensures { λ r. ⌜ r ≡ word (now (t .entry)) rootWord ⌝ }
 {
-    wide(t[0])
+    wide(t[Head::ROOT])
 }
 
 // How many records the header counts.
@@ -42,7 +43,7 @@ pub fn records(t: &[u32]) -> usize
     requires { ⌜ Headed (now t) ⌝ }
     ensures { λ r. ⌜ r ≡ word (now (t .entry)) countWord ⌝ }
 {
-    wide(t[1])
+    wide(t[Head::COUNT])
 }
 
 // The change number.
@@ -50,7 +51,7 @@ pub fn change(t: &[u32]) -> u32
     requires { ⌜ Headed (now t) ⌝ }
     ensures { λ r. ⌜ r ≡ word (now (t .entry)) changeWord ⌝ }
 {
-    t[2]
+    t[Head::CHANGE]
 }
 
 // The header's last word, which is 0 in a good one.
@@ -58,7 +59,7 @@ pub fn zero(t: &[u32]) -> u32
     requires { ⌜ Headed (now t) ⌝ }
     ensures { λ r. ⌜ r ≡ word (now (t .entry)) zeroWord ⌝ }
 {
-    t[3]
+    t[Head::ZERO]
 }
 
 // A slot by value.
@@ -66,16 +67,16 @@ pub fn slot_at(t: &[u32], k: usize) -> Slot
     requires { ⌜ InTable (now t) k ⌝ }
     ensures { λ r. ⌜ r ≡ slotAt (now (t .entry)) k ⌝ }
 {
-    let b = 4 + Slot::WORDS * (k - 1);
+    let b = Head::WORDS + Slot::WORDS * (k - 1);
     Slot {
         state: t[b],
-        key: t[b + 1],
-        pieces: t[b + 2],
-        left: t[b + 3],
-        right: t[b + 4],
-        lefth: t[b + 5],
-        righth: t[b + 6],
-        last: t[b + 7],
+        key: t[b + Slot::KEY],
+        pieces: t[b + Slot::PIECES],
+        left: t[b + Slot::LEFT],
+        right: t[b + Slot::RIGHT],
+        lefth: t[b + Slot::LEFTH],
+        righth: t[b + Slot::RIGHTH],
+        last: t[b + Slot::LAST],
     }
 }
 
@@ -116,13 +117,13 @@ pub fn link_word(link: Link) -> usize
 {
     let holder = link.holder;
     if holder == Link::ROOT {
-        return 0;
+        return Head::ROOT;
     }
-    let b = 4 + Slot::WORDS * (holder - 1);
+    let b = Head::WORDS + Slot::WORDS * (holder - 1);
     let side = link.side;
     match side {
-        Side::Left => b + 3,
-        Side::Right => b + 4,
+        Side::Left => b + Slot::LEFT,
+        Side::Right => b + Slot::RIGHT,
     }
 }
 
@@ -140,9 +141,9 @@ pub fn register_at(k: usize, side: Side) -> usize
     requires { ⌜ (1 ≤ k) × (k ≤ 4095) ⌝ }
     ensures { λ r. ⌜ r ≡ registerAt k side ⌝ }
 {
-    let b = 4 + Slot::WORDS * (k - 1);
+    let b = Head::WORDS + Slot::WORDS * (k - 1);
     match side {
-        Side::Left => b + 5,
-        Side::Right => b + 6,
+        Side::Left => b + Slot::LEFTH,
+        Side::Right => b + Slot::RIGHTH,
     }
 }

@@ -1,4 +1,5 @@
 // The search for a free slot, place by place.
+use scope::Head;
 use scope::Slot;
 use scope::State;
 ghost use Rattle.spelling.specs.Ready.{Sized, Free};
@@ -8,7 +9,7 @@ pub fn free_slot(t: &[u32], c: usize) -> usize
     requires { ⌜ Sized (now t) c ⌝ }
     ensures { λ r. ⌜ Free (now (t .entry)) c r ⌝ }
 {
-    let mut b: usize = 4;
+    let mut b: usize = Head::WORDS;
     while b < t.len() {
         if t[b] == State::FREE {
             return b / Slot::WORDS + 1;

@@ -1,6 +1,7 @@
 // Writing words, slots and links.
 use crate::read::link_word;
 use crate::read::register_at;
+use scope::Head;
 use scope::Link;
 use scope::Side;
 use scope::Slot;
@@ -10,20 +11,20 @@ ghost use lib.ListN.{length, set};
 ghost use Rattle.scope.specs.Table.{countWord, changeWord, withSlot, linkAt, registerAt, InTable};
 ghost use Rattle.spelling.specs.Ready.{Headed};
 
-// All eight words of a slot.
+// All words of a slot.
 pub fn put_slot(t: &mut [u32], k: usize, s: Slot)
     requires { ⌜ InTable (now t) k ⌝ }
     ensures { λ _. ⌜ now (t .exit) ≡ withSlot (now (t .entry)) k s ⌝ }
 {
-    let b = 4 + Slot::WORDS * (k - 1);
+    let b = Head::WORDS + Slot::WORDS * (k - 1);
     t[b] = s.state;
-    t[b + 1] = s.key;
-    t[b + 2] = s.pieces;
-    t[b + 3] = s.left;
-    t[b + 4] = s.right;
-    t[b + 5] = s.lefth;
-    t[b + 6] = s.righth;
-    t[b + 7] = s.last;
+    t[b + Slot::KEY] = s.key;
+    t[b + Slot::PIECES] = s.pieces;
+    t[b + Slot::LEFT] = s.left;
+    t[b + Slot::RIGHT] = s.right;
+    t[b + Slot::LEFTH] = s.lefth;
+    t[b + Slot::RIGHTH] = s.righth;
+    t[b + Slot::LAST] = s.last;
 }
 
 // A slot's number in a link.
@@ -58,7 +59,7 @@ pub fn put_records(t: &mut [u32], n: usize)
     requires { ⌜ Headed (now t) × (n ≤ 4095) ⌝ }
     ensures { λ _. ⌜ now (t .exit) ≡ set (now (t .entry)) countWord n ⌝ }
 {
-    t[1] = n as u32;
+    t[Head::COUNT] = n as u32;
 }
 
 // The change number.
@@ -66,5 +67,5 @@ pub fn put_change(t: &mut [u32], change: u32)
     requires { ⌜ Headed (now t) ⌝ }
     ensures { λ _. ⌜ now (t .exit) ≡ set (now (t .entry)) changeWord change ⌝ }
 {
-    t[2] = change;
+    t[Head::CHANGE] = change;
 }

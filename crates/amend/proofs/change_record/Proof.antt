@@ -11,6 +11,9 @@ change-requires c κs = search needs
 slot-at-requires : tie.Need-slot-at-requires
 slot-at-requires c κs = search needs
 
+with-record-requires : tie.Need-with-record-requires
+with-record-requires c κs = search needs
+
 put-slot-requires : tie.Need-put-slot-requires
 put-slot-requires c κs = search needs
 
@@ -24,8 +27,14 @@ returns : tie.Need-returns
 unfolding amended
 returns c =
     let b = c .before .before .before .before .before .before in
-    let s = b .before .before in
-    simp (sym (s .before .before .change .ensures), sym (s .slot-at .ensures), sym (b .put-slot .ensures))
+    let r = b .before .before in
+    let s = r .before in
+    simp (
+      sym (s .before .before .change .ensures),
+      sym (s .slot-at .ensures),
+      sym (r .with-record .ensures),
+      sym (b .put-slot .ensures),
+    )
     (c .before .before .next-change .ensures)
 
 pub change-record-spec : {M : Type 1} → statement M
@@ -34,6 +43,7 @@ change-record-spec =
     (tie.spec
     change-requires
     slot-at-requires
+    with-record-requires
     put-slot-requires
     next-change-requires
     same-length

@@ -5,41 +5,21 @@ use mathlib.Core.Bool.{cond}
 use mathlib.Core.List.{List, [], _∷_}
 use native.Mathlib.Omega.{arith}
 use native.Mathlib.Decide.{ℕ-discrete}
-use native.Mathlib.Nat.{add-zero}
 use lib.ListN.{set, length-set}
 use lib.Seq.{getD-set-same, getD-set-other}
 use lib.Dec.{eqb}
 use borrow.Author.Tests.{eq-eqb, ne-eqb}
-use Rattle.scope.specs.Table.{slotWords, word, rootWord, base, slotAt, written}
+use Rattle.scope.specs.Table.{slotWords, word, rootWord, base, slotAt, slotOf, written}
 use Rattle.scope.specs.declared.side.Side.the-variants.{Left, Right}
-use Rattle.scope.specs.declared.slot.Slot.{Slot}
 use Rattle.spelling.specs.Ready.{Sized}
+use Rattle.spelling.proofs.Slots.{words-slot}
 use Rattle.scope.specs.Edits.{Part, sonOn, registerOn, offset, Edit, placeOf, writes}
 use Rattle.bridge.specs.Edit.{shape, withPart, edited, rooted}
-
--- a slot of eight numbers
-abbrev ofWords : (ℕ → ℕ) → Slot
-ofWords g = record {
-  state = g 0;
-  key = g 1;
-  pieces = g 2;
-  left = g 3;
-  right = g 4;
-  lefth = g 5;
-  righth = g 6;
-  last = g 7;
-}
-
-words-slot : (t : List ℕ) (k : ℕ) (g : ℕ → ℕ) → ((f : ℕ) → f < slotWords → word t (base k + f) ≡ g f) → slotAt t k ≡ ofWords g
-unfolding slotAt
-words-slot t k g e =
-    let z : word t (base k) ≡ g 0 = rw (add-zero (base k)) at (e 0 (omega arith)) in
-    cc (z, e 1 (omega arith), e 2 (omega arith), e 3 (omega arith), e 4 (omega arith), e 5 (omega arith), e 6 (omega arith), e 7 (omega arith))
 
 abbrev changed : Part → ℕ → (ℕ → ℕ) → ℕ → ℕ
 changed p x g f = cond (eqb f (offset p)) x (g f)
 
-part-of : (p : Part) (x : ℕ) (g : ℕ → ℕ) → ofWords (changed p x g) ≡ withPart p x (ofWords g)
+part-of : (p : Part) (x : ℕ) (g : ℕ → ℕ) → slotOf (changed p x g) ≡ withPart p x (slotOf g)
 unfolding withPart shape
 part-of (sonOn Left) x g = refl
 part-of (sonOn Right) x g = refl

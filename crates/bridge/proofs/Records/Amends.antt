@@ -12,14 +12,15 @@ use Rattle.scope.specs.Tree.{Batch, Tree, node, times, same}
 use Rattle.scope.specs.Sound.{Spells}
 use Rattle.scope.specs.Post.{recordOk}
 use Rattle.scope.specs.Amend.{withPieces}
-use Rattle.scope.specs.Drop.{withRecord}
+use Rattle.scope.specs.Drop.{withRecordOf}
 use Rattle.scope.specs.declared.slot.Slot.{Slot}
 use Rattle.scope.specs.declared.side.Link.{Link}
 use Rattle.spelling.proofs.Frame.{frame}
 use Rattle.bridge.specs.Below.{Hangs, Below}
 use Rattle.tree.specs.Seek.{amendTop}
 use Rattle.bridge.proofs.Links.Outside.{same-one, first-slot, steady, steady-root}
-use Rattle.spelling.proofs.Wrote.{slot-here, slot-there, slot-head, slot-sized}
+use Rattle.spelling.proofs.Wrote.{slot-there, slot-head, slot-sized}
+use Rattle.spelling.proofs.Slots.{slot-here}
 
 -- a fit slot holds a record in range, and stays fit with another one
 module _ (c : ℕ) (x : Slot) (e : fitSlot c x ≡ true) where
@@ -48,7 +49,7 @@ module _ (c : ℕ) (x : Slot) (e : fitSlot c x ≡ true) where
       )
 
   pub fit-record : (from : Slot) → recordOk (from .key) (from .pieces) (from .state) ≡ true
-      → fitSlot c (withRecord x from) ≡ true
+      → fitSlot c (withRecordOf x from) ≡ true
   unfolding fitSlot recordOk
   fit-record from r =
       let some-key = not (eqb (from .key) 0) in
@@ -95,7 +96,7 @@ module _ {t : List ℕ} {c : ℕ} (l : Link) (d : Batch) (a b : ℕ) (left right
 
   module _ (from : Slot) (ok : recordOk (from .key) (from .pieces) (from .state) ≡ true) where
     abbrev y : Slot
-    y = withRecord (slotAt t x) from
+    y = withRecordOf (slotAt t x) from
 
     abbrev t′ : List ℕ
     t′ = withSlot t x y

@@ -6,7 +6,7 @@ use native.Mathlib.Omega.{arith}
 use borrow.Author.Tests.{ne-eqb}
 use Rattle.scope.specs.Numbers.{other}
 use Rattle.scope.specs.Table.{word, slotAt, son, linkAt}
-use Rattle.scope.specs.Fit.{zeroSlot}
+use Rattle.scope.specs.Table.{zeroSlot}
 use Rattle.scope.specs.Tree.{Batch, Tree, leaf, node, times, trueHeight}
 use Rattle.scope.specs.Sound.{Spells}
 use Rattle.scope.specs.Rules.{pair}

@@ -35,7 +35,8 @@ use Rattle.bridge.specs.Settled.{Settled, Spelled}
 use Rattle.bridge.proofs.Links.Edited.{Rewritten, rewritten}
 use Rattle.bridge.proofs.Links.Looks.{look}
 use Rattle.bridge.proofs.Links.Outside.{same-one, first-slot}
-use Rattle.spelling.proofs.Wrote.{slot-here, slot-there, slot-head, slot-sized}
+use Rattle.spelling.proofs.Wrote.{slot-there, slot-head, slot-sized}
+use Rattle.spelling.proofs.Slots.{slot-here}
 use Rattle.bridge.proofs.Links.Above.{below-cut}
 use Rattle.bridge.proofs.Firing.Along.{hangs-along, cut-key}
 use Rattle.bridge.proofs.Links.Ways.{leads-holder}

@@ -10,7 +10,7 @@ use borrow.Author.Tests.{ne-eqb, eqb-true}
 use Rattle.scope.proofs.Bools.{by-bool}
 use Rattle.scope.specs.Numbers.{other}
 use Rattle.scope.specs.Table.{word, rootWord, slotAt, son, linkAt, registerAt, written}
-use Rattle.scope.specs.Fit.{zeroSlot}
+use Rattle.scope.specs.Table.{zeroSlot}
 use Rattle.scope.specs.Tree.{Batch, Tree, leaf, node, times, same}
 use Rattle.scope.specs.Sound.{Spells}
 use Rattle.scope.specs.Rules.{pair}
@@ -32,7 +32,8 @@ use Rattle.tree.specs.Without.{least, leastLink, withoutLeast}
 use Rattle.bridge.proofs.Links.Edited.{Rewritten, rewritten}
 use Rattle.bridge.proofs.Links.Looks.{Looks, look}
 use Rattle.bridge.proofs.Links.Outside.{same-one, first-slot}
-use Rattle.spelling.proofs.Wrote.{slot-here, slot-there, slot-head, slot-sized}
+use Rattle.spelling.proofs.Wrote.{slot-there, slot-head, slot-sized}
+use Rattle.spelling.proofs.Slots.{slot-here}
 use Rattle.bridge.proofs.Links.Above.{hangs-down, above-cut, below-cut}
 
 -- a slot that is blanked is blank

@@ -4,11 +4,11 @@ use mathlib.Core.Path.{_≡_, refl, sym, ap, subst}
 use mathlib.Core.List.{List}
 use native.Mathlib.Omega.{arith}
 use Rattle.scope.specs.Table.{word, slotAt, withSlot, linkAt}
-use Rattle.scope.specs.Fit.{zeroSlot}
+use Rattle.scope.specs.Table.{zeroSlot}
 use Rattle.scope.specs.Tree.{Batch, Tree, node, times, same}
 use Rattle.scope.specs.Sound.{Spells}
 use Rattle.scope.specs.Rules.{pair}
-use Rattle.scope.specs.Drop.{withRecord, lifted, replaced}
+use Rattle.scope.specs.Drop.{withRecordOf, lifted, replaced}
 use Rattle.scope.specs.declared.side.Side.the-variants.{Right}
 use Rattle.scope.specs.declared.side.Link.{Link}
 use Rattle.scope.specs.declared.slot.Slot.{Slot}
@@ -58,7 +58,7 @@ module _ {t : List ℕ} {c : ℕ} (l : Link) (d : Batch) (a b : ℕ) (L : Tree) 
 
   -- the record is written
   abbrev y : Slot
-  y = withRecord (slotAt t x) (slotAt t k)
+  y = withRecordOf (slotAt t x) (slotAt t k)
 
   abbrev t₀ : List ℕ
   t₀ = withSlot t x y

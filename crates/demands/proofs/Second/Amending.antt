@@ -10,7 +10,7 @@ use lib.Seq.{getD-set-same}
 use lib.Dec.{ltb}
 use Rattle.scope.proofs.Bools.{by-bool}
 use Rattle.scope.specs.Numbers.{rootLink, lastChange}
-use Rattle.scope.specs.Table.{word, changeWord, slotAt, withSlot}
+use Rattle.scope.specs.Table.{word, changeWord, slotAt, withSlot, written}
 use Rattle.scope.specs.Tree.{Batch, Tree}
 use Rattle.scope.specs.Sound.{treeIn}
 use Rattle.scope.specs.Answers.{refused}
@@ -55,14 +55,14 @@ module _ {t : List ℕ} {c : ℕ} (w : Whole t c) (key pieces state : ℕ) (ok :
     sound-after = amended-whole w key pieces state ok d found (word t changeWord + 1)
 
     long : length (after d) ≡ length t
-    unfolding withSlot
+    unfolding withSlot written
     long = simp length-set
 
     sized-after : Sized (after d) c
     sized-after = record { room = w .sized .room ∙ sym long; some = w .sized .some; most = w .sized .most }
 
     change-after : word (after d) changeWord ≡ word t changeWord + 1
-    unfolding withSlot
+    unfolding withSlot written
     change-after =
         getD-set-same (withSlot t (d .slot) (withPieces (slotAt t (d .slot)) pieces state)) changeWord
         (word t changeWord + 1) 0 (simp length-set (omega (arith, w .sized .room)))

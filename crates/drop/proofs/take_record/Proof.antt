@@ -7,6 +7,9 @@ use Rattle.drop.proofs.take_record.Tie as tie
 slot-at-requires : tie.Need-slot-at-requires
 slot-at-requires c κs = search needs
 
+with-record-requires : tie.Need-with-record-requires
+with-record-requires c κs = search needs
+
 put-slot-requires : tie.Need-put-slot-requires
 put-slot-requires c κs = search needs
 
@@ -14,7 +17,10 @@ same-length : tie.Need-same-length
 same-length c = search needs
 
 returns : tie.Need-returns
-returns c = simp (sym (c .before .before .before .before .slot-at .ensures)) (c .before .before .put-slot .ensures)
+returns c =
+    let b = c .before .before .before .before in
+    simp (sym (b .before .slot-at .ensures), sym (b .with-record .ensures)) (c .before .before .put-slot .ensures)
 
 pub take-record-spec : {M : Type 1} → statement M
-take-record-spec = tie.close (tie.spec slot-at-requires put-slot-requires same-length returns)
+take-record-spec =
+    tie.close (tie.spec slot-at-requires with-record-requires put-slot-requires same-length returns)

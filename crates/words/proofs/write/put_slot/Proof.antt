@@ -2,7 +2,7 @@
 use native.Mathlib.Omega.{arith}
 use borrow.Author.Needs.{needs}
 use lib.ListN.{length-set}
-use Rattle.scope.specs.Table.{withSlot}
+use Rattle.scope.specs.Table.{withSlot, written}
 use Rattle.words.proofs.write.put_slot.Statement.{statement}
 use Rattle.words.proofs.write.put_slot.Tie as tie
 
@@ -88,7 +88,7 @@ same-length : tie.Need-same-length
 same-length c = search needs
 
 returns : tie.Need-returns
-unfolding withSlot
+unfolding withSlot written
 returns c = search needs
 
 pub put-slot-spec : {M : Type 1} → statement M
