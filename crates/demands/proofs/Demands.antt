@@ -31,7 +31,7 @@ demand-2 w =
       fire = fire-exact w;
       order = stated-order w;
       tidy = tidy-is w;
-      rests = tidy-rests w;
+      more = tidy-rests w;
     }
 
 pub demand-3 : {t : List ℕ} {c : ℕ} → Whole t c → Demand3 t c

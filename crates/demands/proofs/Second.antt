@@ -7,7 +7,7 @@ pub mod Posting
 pub mod Dropping
 pub mod Exact
 pub mod Firing
-pub mod Enabled
+pub mod Due
 pub mod Tidying
 pub mod Order
 pub mod Sequence

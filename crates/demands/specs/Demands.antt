@@ -55,7 +55,7 @@ pub record Demand2 (t : List ℕ) (c : ℕ) : Type 0 where
   pub order : StatedOrder t c
   pub tidy : (budget : ℕ) → Tidies t c budget
   -- and answers 1 for more exactly if no guard holds then
-  pub rests : (budget : ℕ) → Exactly (tidyAnswer t budget .more ≡ 1) (Quiet (treeIn (tidyTable t budget) c))
+  pub more : (budget : ℕ) → Exactly (tidyAnswer t budget .more ≡ 1) (Quiet (treeIn (tidyTable t budget) c))
 
 -- DEMAND 3, of a sound table t of c slots on which nothing but firings is tried
 pub record Demand3 (t : List ℕ) (c : ℕ) : Type 0 where

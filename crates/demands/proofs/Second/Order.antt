@@ -15,7 +15,7 @@ use Rattle.demands.specs.Fires.{Trial, tried, Accepted}
 use Rattle.demands.specs.Tidying.{DueTrial, StatedOrder}
 use Rattle.demands.proofs.Open.{own-tree}
 use Rattle.demands.proofs.Second.Exact.{fire-exact}
-use Rattle.demands.proofs.Second.Enabled.{accepted-due, first-accepted}
+use Rattle.demands.proofs.Second.Due.{accepted-due, first-accepted}
 use Rattle.demands.proofs.Second.Tidying.{due-tried, next-fires}
 
 module _ {t : List ℕ} {c : ℕ} (w : Whole t c) where

@@ -29,7 +29,7 @@ use Rattle.demands.specs.Exactly.{Exactly}
 use Rattle.demands.specs.Fires.{Trial, tried}
 use Rattle.demands.specs.Tidying.{trialAt, Firings, rests, spent, next, Stopped, all-spent, at-rest, Ran, Tidies}
 use Rattle.demands.proofs.Open.{sound-gate, rest-exactly}
-use Rattle.demands.proofs.Second.Enabled.{link-known}
+use Rattle.demands.proofs.Second.Due.{link-known}
 use Rattle.demands.proofs.Second.Firing.{SameLedger, fire-ledger}
 
 -- A RULE THAT IS DUE is accepted by fire, which does what tidy does

@@ -15,7 +15,7 @@ use Rattle.tree.proofs.Worth.Fall.{worth-falls}
 use Rattle.tree.proofs.Rest.Quiet.{accepted-fires}
 use Rattle.demands.specs.Fires.{worthIn, Trial, tried, Accepted, fires, acceptedIn}
 use Rattle.demands.specs.Firing.{Enabled}
-use Rattle.demands.proofs.Second.Firing.{Fares, acts, rests, fares, fire-ledger}
+use Rattle.demands.proofs.Second.Firing.{Fares, acted, unmoved, fares, fire-ledger}
 
 -- the published action lowers the worth of the tree
 enabled-falls : (t : List ℕ) (c : ℕ) (x : Trial) (e : Enabled t c x) → worthOf (e .tree) < worthIn t c
@@ -27,8 +27,8 @@ enabled-falls t c x e =
 -- an attempt costs 1 of the worth if it is accepted, and nothing if not
 costs : {t : List ℕ} {c : ℕ} (x : Trial) → Fares t c x
     → cond (eqb (tried t x .answer .code) 0) 1 0 + worthIn (tried t x .words) c ≤ worthIn t c
-costs {t} {c} x (acts e z f) = rw z (omega (arith, enabled-falls t c x e, ap worthOf (f .tree)))
-costs {t} {c} x (rests ne same) =
+costs {t} {c} x (acted e z f) = rw z (omega (arith, enabled-falls t c x e, ap worthOf (f .tree)))
+costs {t} {c} x (unmoved ne same) =
     rw (ne-eqb (tried t x .answer .code) 0 ne) (omega (arith, ap (λ (u : List ℕ). worthIn u c) same))
 
 -- THE WORTH FALLS at every accepted call of fire

@@ -23,7 +23,7 @@ use Rattle.bridge.proofs.Resting.Quiets.{relaxed, numbered}
 use Rattle.demands.specs.Fires.{Trial, Accepted}
 use Rattle.demands.specs.Firing.{NamedPlace}
 use Rattle.demands.proofs.Open.{own-tree, tree-small}
-use Rattle.demands.proofs.Second.Enabled.{link-known}
+use Rattle.demands.proofs.Second.Due.{link-known}
 use Rattle.demands.proofs.Second.Exact.{fire-exact}
 
 -- NEVER STUCK: where a guard holds anywhere in the tree, fire accepts some numbers
