@@ -39,10 +39,12 @@ pub record Demand1 (x : Call) (t : List ℕ) : Type 0 where
 
 -- DEMAND 2, of a sound table t of c slots
 pub record Demand2 (t : List ℕ) (c : ℕ) : Type 0 where
-  -- its ledger is sorted by stamp, has the record of every slot in use, and as many records as word 1 counts
+  -- its ledger, the records from left to right, is sorted by stamp
   pub sorted : Sorted (ledgerOf t c .entries)
+  -- it has the record of every slot that is in use
   pub has : (k : ℕ) → 1 ≤ k → k ≤ c → (slotAt t k .state ≡ 0 → ⊥)
       → lookup (slotAt t k .key) (ledgerOf t c .entries) ≡ some (entryOf (batchAt t k))
+  -- and as many as word 1 counts
   pub count : length (ledgerOf t c .entries) ≡ word t countWord
   -- any list of calls answers as on the ledger and leaves what it leaves of the ledger; only slots and how many were
   -- visited are not compared, and of the slot of a rank it is the record in it that is
@@ -50,9 +52,9 @@ pub record Demand2 (t : List ℕ) (c : ℕ) : Type 0 where
   -- fire takes a rule just where its guard holds and every new height fits a register; then the tree changes as the rule
   -- says, and the records, their slots and the change number stay
   pub fire : (x : Trial) → FireIs t c x (tried t x)
-  -- of all that fire would take, the next is the lowest slot and there the lowest rule; tidy fires the next one again and
-  -- again until its budget is spent or there is none
+  -- of all that fire would take, the next has the lowest slot and there the lowest rule
   pub order : StatedOrder t c
+  -- tidy fires the next one again and again, until its budget is spent or there is none
   pub tidy : (budget : ℕ) → Tidies t c budget
   -- and answers 1 for more exactly if no guard holds then
   pub more : (budget : ℕ) → Exactly (tidyAnswer t budget .more ≡ 1) (Quiet (treeIn (tidyTable t budget) c))
@@ -65,14 +67,16 @@ pub record Demand3 (t : List ℕ) (c : ℕ) : Type 0 where
   pub falls : (x : Trial) → Accepted t x → worthIn (tried t x .words) c < worthIn t c
   -- so of any list of them at most as many are accepted as the worth was, and what is left of it bounds the worth then
   pub no-more : (xs : List Trial) → acceptedIn (answers (fires xs) t) + worthIn (after (fires xs) t) c ≤ worthIn t c
-  -- this is the number that the call worth answers, and it has the bound of document 01
+  -- this worth is what the call worth answers
   pub told : worthAnswer t ≡ accepted (word t changeWord) (worthIn t c) 0 0
+  -- and it is no larger than the bound of document 01
   pub bounded : (let T = treeIn t c in let n = word t countWord in
       worthIn t c ≤ 6 * largestCarry T * n * (n + 1) + 3 * largestBalance T * n)
   -- no guard holds at any slot exactly if none holds anywhere in that tree
   pub at-rest : Exactly (quiet t c ≡ true) (Quiet (treeIn t c))
   -- and then every register tells the true height, and the two sides of each node are level or one apart
   pub level : quiet t c ≡ true → Balanced (treeIn t c)
-  -- and the walk to any key, hit or miss, visits 16 records or fewer; that is what find says of its visits
+  -- and the walk to any key, hit or miss, visits 16 records or fewer
   pub short : quiet t c ≡ true → (key : ℕ) → Short mostVisits (walkOf t c key)
+  -- as find says too
   pub find : quiet t c ≡ true → (key : ℕ) → findAnswer t key .more ≤ mostVisits

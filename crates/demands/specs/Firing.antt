@@ -63,12 +63,16 @@ pub record NoGuard (t : List ℕ) (c : ℕ) (x : Trial) : Type 0 where
 pub record FireIs (t : List ℕ) (c : ℕ) (x : Trial) (d : Done) : Type 0 where
   -- it is accepted exactly if the guard holds and no height above 65,535 would be written
   pub accepts : Exactly (d .answer .code ≡ 0) (Enabled t c x)
-  -- then it answers the change number as it was, and the words spell the tree after the published action: sound again,
-  -- every record in its slot, words 1 to 3 and the free slots as before
+  -- then it answers the change number as it was, and zeros
   pub answers : Enabled t c x → d .answer ≡ accepted (word t changeWord) 0 0 0
+  -- and the words spell the tree after the published action: sound again, every record in its slot, words 1 to 3 and the
+  -- free slots as before
   pub acts : (e : Enabled t c x) → Fired t (d .words) c (treeIn t c) (e .tree)
-  -- it is refused with 9, with 8 or with 2, each exactly for its reason, and with no other code
+  -- it is refused with 9 exactly if the guard holds and a height would be too high
   pub too-high : Exactly (d ≡ refused t TooHigh) (OverLimit t c x)
+  -- with 8 exactly if the guard fails, or no way leads to the link
   pub guard-fails : Exactly (d ≡ refused t GuardFails) (NoGuard t c x)
+  -- with 2 exactly if the numbers name no rule or no link
   pub out-of-range : Exactly (d ≡ refused t OutOfRange) (Named c x → ⊥)
+  -- and with no other code
   pub no-other : among (d .answer .code) (0 ∷ codeOf OutOfRange ∷ codeOf GuardFails ∷ codeOf TooHigh ∷ []) ≡ true
