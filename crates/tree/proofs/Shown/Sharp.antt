@@ -112,8 +112,15 @@ unfolding Below
 below-more leaf a b l h = tt
 below-more (node d x y p q) a b l h = (omega arith, below-more p a b l (h .1), below-more q a b l (h .2))
 
+-- the slots from left to right are those after k, and each is its record's key
+abbrev pub Numbered : ℕ → Tree → Type 0
+Numbered k leaf = Unit {0}
+Numbered k (node d a b l r) =
+    (d ≡ batch (suc (k + size l))) × Numbered k l × Numbered (suc (k + size l)) r
+
 record Sparse (h k : ℕ) (T : Tree) : Type 0 where
   count : size T ≡ fewest h
+  numbered : Numbered k T
   high : trueHeight T ≡ h
   balanced : Balanced T
   above : Above k T
@@ -122,10 +129,11 @@ record Sparse (h k : ℕ) (T : Tree) : Type 0 where
 
 sparse-is : (h k : ℕ) → Sparse h k (sparse h k)
 unfolding sparse size trueHeight fewest Above Below Ordered
-sparse-is zero k = record { count = refl; high = refl; balanced = tt; above = tt; below = tt; ordered = tt }
+sparse-is zero k = record { count = refl; numbered = tt; high = refl; balanced = tt; above = tt; below = tt; ordered = tt }
 sparse-is (suc zero) k =
     record {
       count = refl;
+      numbered = (ap batch (omega arith), tt, tt);
       high = refl;
       balanced = record { near = (refl, omega arith); far = (refl, omega arith); inNear = tt; inFar = tt };
       above = (omega arith, tt, tt);
@@ -138,6 +146,7 @@ sparse-is (suc (suc h)) k =
     let y = sparse-is h root in
     record {
       count = omega (arith, x .count, y .count);
+      numbered = rw (x .count) (refl, x .numbered, y .numbered);
       high = omega (arith, x .high, y .high);
       balanced = record {
         near = (omega (arith, x .high), omega arith);
@@ -188,7 +197,9 @@ sparse-walk (suc h) k =
 pub record Sixteen : Type 0 where
   pub tree : Tree
   pub relaxed : HeightRelaxed tree
+  pub balanced : Balanced tree
   pub quiet : Quiet tree
+  pub numbered : Numbered 0 tree
   pub count : size tree ≡ 2583
   pub high : trueHeight tree ≡ 16
   pub walk : visits 1 tree ≡ 16
@@ -202,7 +213,9 @@ sixteen =
     record {
       tree = sparse 16 0;
       relaxed = record { ordered = x .ordered; relaxed = relaxed (sparse 16 0) (x .balanced) };
+      balanced = x .balanced;
       quiet = balanced-quiet (sparse 16 0) (x .balanced);
+      numbered = x .numbered;
       count = x .count;
       high = x .high;
       walk = y .0;
