@@ -1,13 +1,17 @@
 -- The ledger of a table: its records in the order of their keys, its change number, and its slots. Assumes nothing.
 use Prim.Native.Nat.{ℕ}
 use mathlib.Core.Path.{_≡_}
+use mathlib.Core.Bool.{cond}
+use mathlib.Core.Option.{Option, none, some}
 use mathlib.Core.List.{List}
+use lib.Dec.{eqb}
 use Rattle.scope.specs.Table.{word, changeWord}
-use Rattle.scope.specs.Sound.{treeIn}
+use Rattle.scope.specs.Sound.{batchAt, treeIn}
 use Rattle.scope.specs.Answers.{Done}
 use Rattle.scope.specs.declared.answer.Answer.{Answer}
 use Rattle.spelling.specs.Whole.{Whole}
-use Rattle.ledger.specs.OfTree.{entriesOf}
+use Rattle.ledger.specs.Entries.{Entry}
+use Rattle.ledger.specs.OfTree.{entryOf, entriesOf}
 use Rattle.ledger.specs.Ledger.{Ledger, Entered}
 
 abbrev pub ledgerOf : List ℕ → ℕ → Ledger
@@ -19,6 +23,10 @@ noVisits a = record { code = a .code; change = a .change; value = a .value; more
 
 abbrev pub noSlot : Answer → Answer
 noSlot a = record { code = a .code; change = a .change; value = 0; more = a .more; kind = a .kind }
+
+-- the record that stands in a slot; slot 0 is none
+abbrev pub standing : List ℕ → ℕ → Option Entry
+standing t k = cond (eqb k 0) none (some (entryOf (batchAt t k)))
 
 -- a call on a table did what it does to the ledger: the answer, its slot apart; sound again; and the ledger afterwards
 pub record AsLedger (d : Done) (c : ℕ) (e : Entered) : Type 0 where

@@ -5,14 +5,14 @@ use mathlib.Core.Bool.{cond}
 use mathlib.Core.List.{List, [], _∷_, map}
 use lib.ListN.{length}
 use Rattle.scope.specs.Table.{word, changeWord}
-use Rattle.scope.specs.Answers.{Done, accepted}
-use Rattle.scope.specs.Fire.{fireOf}
+use Rattle.scope.specs.Answers.{accepted}
 use Rattle.scope.specs.Tidy.{linkTo, nextOf, quiet, tidyAnswer, tidyTable}
 use Rattle.scope.specs.Calls.{answers, after}
 use Rattle.scope.specs.declared.outcome.Next.the-variants.{At, Nothing}
 use Rattle.spelling.specs.Whole.{Whole}
-use Rattle.bridge.specs.Due.{Due}
-use Rattle.demands.specs.Fires.{Trial, fires}
+use Rattle.bridge.specs.Due.{Due, NotAfter}
+use Rattle.demands.specs.Exactly.{Exactly}
+use Rattle.demands.specs.Fires.{Trial, tried, Accepted, fires}
 use Rattle.demands.specs.Ledgers.{ledgerOf}
 use Rattle.bridge.specs.Leads.{sideNumber}
 
@@ -20,14 +20,21 @@ use Rattle.bridge.specs.Leads.{sideNumber}
 abbrev pub trialAt : List ℕ → ℕ → ℕ → ℕ → Trial
 trialAt t c v n = record { rule = n; holder = linkTo t c v .holder; side = sideNumber (linkTo t c v .side) }
 
-abbrev pub tried : List ℕ → Trial → Done
-tried t x = fireOf t (x .rule) (x .holder) (x .side)
-
 -- a call of fire that names a rule which is due at a slot, and the link where that slot hangs
 pub record DueTrial (t : List ℕ) (c : ℕ) (x : Trial) : Type 0 where
   pub slot : ℕ
   pub due : Due t c slot (x .rule)
   pub is : x ≡ trialAt t c slot (x .rule)
+
+-- the stated order on a table: which calls of fire are accepted, and which of them is next
+pub record StatedOrder (t : List ℕ) (c : ℕ) : Type 0 where
+  -- fire is accepted exactly if its rule is due at the slot that hangs at its link
+  pub due : (x : Trial) → Exactly (Accepted t x) (DueTrial t c x)
+  -- the next one is accepted, and comes before all others: the lowest slot, and there the lowest rule
+  pub taken : (v n : ℕ) → nextOf t c ≡ At v n → Accepted t (trialAt t c v n)
+  pub first : (v n : ℕ) → nextOf t c ≡ At v n → (x : Trial) (d : DueTrial t c x) → NotAfter v n (d .slot) (x .rule)
+  -- where there is no next one, none is accepted
+  pub at-end : nextOf t c ≡ Nothing → (x : Trial) → Accepted t x → ⊥
 
 -- the calls xs of fire lead from t to t′: each is of the rule that is next, each is accepted, and they end
 -- where the budget is spent or no rule is due

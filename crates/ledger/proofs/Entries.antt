@@ -7,7 +7,7 @@ use mathlib.Core.List.{List, [], _∷_, _++_, map, map-append, append-nil}
 use native.Mathlib.Omega.{arith}
 use lib.ListN.{length, length-map, length-append}
 use lib.Dec.{eqb, ltb}
-use borrow.Author.Tests.{eq-eqb, ne-eqb, eqb-true, ltb-true, ltb-false}
+use borrow.Author.Tests.{eq-eqb, ne-eqb, eqb-true, ltb-true, ltb-false, le-ltb}
 use Rattle.scope.proofs.Bools.{by-bool}
 use Rattle.scope.specs.Tree.{Batch, Tree, leaf, node, size, inOrder, Below, Above, Ordered}
 use Rattle.scope.specs.Sums.{totalOf}
@@ -17,7 +17,9 @@ use Rattle.tree.proofs.Keys.Keyed.{by-key, amendedTree}
 use Rattle.tree.proofs.Keys.Lowest.{least-order}
 use Rattle.tree.proofs.Keys.Grown.{missing, grown}
 use Rattle.ledger.specs.Entries.{Entry, lookup, insert, replace, remove, sumTo}
-use Rattle.ledger.proofs.Lists.{orElse, lookup-append, sum-append, replace-left, replace-right, remove-left, remove-right, NoneAfter, none-after, insert-left, insert-right}
+use Rattle.ledger.specs.Sorted.{EachStamp}
+use Rattle.ledger.proofs.Lists.{orElse, lookup-append, sum-append, replace-left, replace-right, remove-left}
+use Rattle.ledger.proofs.Lists.{remove-right, NoneAfter, each-join, insert-left, insert-right}
 use Rattle.ledger.specs.OfTree.{entryOf, entriesOf}
 
 -- a node's records are those on its left, its own, and those on its right
@@ -147,16 +149,21 @@ entries-size (node d a b l r) =
     ap length (entries-node d a b l r) ∙ length-append (entriesOf l) (entryOf d ∷ entriesOf r)
     ∙ omega (arith, entries-size l, entries-size r)
 
-pub not-less : (a b : ℕ) → b ≤ a → ltb a b ≡ false
-not-less a b h = by-bool (ltb a b) (λ e. absurd (omega (arith, ltb-true a b e))) (λ e. e)
+-- what holds of every key of a tree holds of every stamp of its list
+pub each-key : (P : ℕ → Type 0) (Q : Tree → Type 0)
+    → ((d : Batch) (a b : ℕ) (l r : Tree) → Q (node d a b l r) → P (d .key) × Q l × Q r)
+    → (T : Tree) → Q T → EachStamp P (entriesOf T)
+each-key P Q parts leaf h = unfold inOrder in tt
+each-key P Q parts (node d a b l r) h =
+    let p = parts d a b l r h in
+    rw (entries-node d a b l r)
+    (each-join P (entriesOf l) (entryOf d ∷ entriesOf r) (each-key P Q parts l (p .1)) (p .0, each-key P Q parts r (p .2)))
 
 below-before : (key m : ℕ) (T : Tree) → Below m T → m ≤ key → NoneAfter key (entriesOf T)
 unfolding Below
-below-before key m leaf h i = unfold inOrder in tt
-below-before key m (node d a b l r) h i =
-    rw (entries-node d a b l r)
-    (none-after key (entriesOf l) (entryOf d ∷ entriesOf r) (below-before key m l (h .1) i)
-    (not-less key (d .key) (omega (arith, h .0)), below-before key m r (h .2) i))
+below-before key m T h i =
+    each-key (λ stamp. ltb key stamp ≡ false) (Below m)
+    (λ d a b l r k. (le-ltb key (d .key) (omega (arith, k .0)), k .1, k .2)) T h
 
 -- THE GROWN TREE has the list with the new record inserted
 module _ (new : Batch) where
@@ -167,9 +174,11 @@ module _ (new : Batch) where
   grown-entries (node d a b l r) e h =
       missing (new .key) d a b l r e
       (λ p left right. by-bool (ltb (new .key) (d .key))
-      (λ f. simp (p, f) (entries-node d _ b (grown new l) r ∙ ap (λ (x : List Entry). x ++ (entryOf d ∷ entriesOf r)) (grown-entries l (left f) (h .2))
+      (λ f. simp (p, f) (entries-node d _ b (grown new l) r
+      ∙ ap (λ (x : List Entry). x ++ (entryOf d ∷ entriesOf r)) (grown-entries l (left f) (h .2))
       ∙ sym (rw (entries-node d a b l r) (insert-left (entryOf new) (entriesOf l) (entryOf d) (entriesOf r) f))))
-      (λ f. simp (p, f) (entries-node d a _ l (grown new r) ∙ ap (λ (x : List Entry). entriesOf l ++ (entryOf d ∷ x)) (grown-entries r (right f) (h .3))
+      (λ f. simp (p, f) (entries-node d a _ l (grown new r)
+      ∙ ap (λ (x : List Entry). entriesOf l ++ (entryOf d ∷ x)) (grown-entries r (right f) (h .3))
       ∙ sym (rw (entries-node d a b l r) (insert-right (entryOf new) (entriesOf l) (entryOf d ∷ entriesOf r)
       (below-before (new .key) (d .key) l (h .0) (omega (arith, ltb-false (new .key) (d .key) f)))
       ∙ ap (λ (x : List Entry). entriesOf l ++ x) (behind d r f))))))

@@ -1,3 +1,4 @@
 -- Laws of lists of records.
 pub mod Lists
 pub mod Entries
+pub mod Sorted

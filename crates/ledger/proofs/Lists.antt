@@ -8,6 +8,7 @@ use native.Mathlib.Omega.{arith}
 use lib.Dec.{eqb, ltb}
 use Rattle.scope.proofs.Bools.{by-bool}
 use Rattle.ledger.specs.Entries.{Entry, lookup, insert, replace, remove, sumTo}
+use Rattle.ledger.specs.Sorted.{EachStamp}
 
 -- the first, where it is there
 abbrev pub orElse : Option Entry → Option Entry → Option Entry
@@ -26,7 +27,7 @@ sum-append K [] ys = omega arith
 sum-append K (x ∷ xs) ys = omega (arith, sum-append K xs ys)
 
 -- where a stamp is not, nothing is replaced; so only the part that has it is
-not-here : {X : Type 0} (key : ℕ) (x : Entry) (xs : List Entry) → lookup key (x ∷ xs) ≡ none
+pub not-here : {X : Type 0} (key : ℕ) (x : Entry) (xs : List Entry) → lookup key (x ∷ xs) ≡ none
     → (eqb key (x .key) ≡ false → lookup key xs ≡ none → X) → X
 unfolding lookup
 not-here key x xs e k =
@@ -72,14 +73,14 @@ module _ (key : ℕ) where
   unfolding remove
   remove-right xs ys e = op-right key [] (remove key) refl (λ x zs. refl) xs ys e
 
+-- what holds of every stamp of two lists
+pub each-join : (P : ℕ → Type 0) (xs ys : List Entry) → EachStamp P xs → EachStamp P ys → EachStamp P (xs ++ ys)
+each-join P [] ys h k = k
+each-join P (x ∷ xs) ys h k = (h .0, each-join P xs ys (h .1) k)
+
 -- no stamp of a list is larger
 abbrev pub NoneAfter : ℕ → List Entry → Type 0
-NoneAfter key [] = Unit {0}
-NoneAfter key (x ∷ xs) = (ltb key (x .key) ≡ false) × NoneAfter key xs
-
-pub none-after : (key : ℕ) (xs ys : List Entry) → NoneAfter key xs → NoneAfter key ys → NoneAfter key (xs ++ ys)
-none-after key [] ys h k = k
-none-after key (x ∷ xs) ys h k = (h .0, none-after key xs ys (h .1) k)
+NoneAfter key = EachStamp (λ stamp. ltb key stamp ≡ false)
 
 -- a record goes into the first part where the second begins with a larger stamp, and into the second where the first has none
 module _ (new : Entry) where

@@ -4,18 +4,27 @@ use mathlib.Core.List.{List, [], _∷_}
 use Rattle.scope.specs.Answers.{accepted}
 use Rattle.scope.specs.Calls.{Call, Start, Check, Find, Post, Amend, Drop, Rank, Total, Worth, Fire, Tidy}
 use Rattle.scope.specs.declared.answer.Answer.{Answer}
+use Rattle.ledger.specs.Entries.{Entry, nth}
 use Rattle.ledger.specs.Ledger.{Ledger, findIn, rankIn, totalIn, postIn, amendIn, dropIn}
 
--- what it answers; worth, fire and tidy ask for more than the records, and it has no answer to them
-unfoldable pub ledgerAnswer : Call → Ledger → Option Answer
-ledgerAnswer Start L = some (accepted 0 0 0 0)
-ledgerAnswer Check L = some (accepted (L .change) 0 0 0)
-ledgerAnswer (Find key) L = some (findIn key L)
-ledgerAnswer (Post key pieces state) L = some (postIn key pieces state L .answer)
-ledgerAnswer (Amend key pieces state) L = some (amendIn key pieces state L .answer)
-ledgerAnswer (Drop key) L = some (dropIn key L .answer)
-ledgerAnswer (Rank r) L = some (rankIn r L)
-ledgerAnswer (Total K) L = some (totalIn K L)
+-- what a ledger tells: the five numbers, with 0 for slots and visits; and the record that a rank asks for
+pub record Told : Type 0 where
+  pub answer : Answer
+  pub shows : Option Entry
+
+abbrev pub plain : Answer → Told
+plain a = record { answer = a; shows = none }
+
+-- what it tells of a call; worth, fire and tidy ask for more than the records, and of them it tells nothing
+unfoldable pub ledgerAnswer : Call → Ledger → Option Told
+ledgerAnswer Start L = some (plain (accepted 0 0 0 0))
+ledgerAnswer Check L = some (plain (accepted (L .change) 0 0 0))
+ledgerAnswer (Find key) L = some (plain (findIn key L))
+ledgerAnswer (Post key pieces state) L = some (plain (postIn key pieces state L .answer))
+ledgerAnswer (Amend key pieces state) L = some (plain (amendIn key pieces state L .answer))
+ledgerAnswer (Drop key) L = some (plain (dropIn key L .answer))
+ledgerAnswer (Rank r) L = some (record { answer = rankIn r L; shows = nth r (L .entries) })
+ledgerAnswer (Total K) L = some (plain (totalIn K L))
 ledgerAnswer Worth L = none
 ledgerAnswer (Fire rule holder side) L = none
 ledgerAnswer (Tidy budget) L = none
@@ -35,7 +44,7 @@ ledgerAfter (Fire rule holder side) L = L
 ledgerAfter (Tidy budget) L = L
 
 -- one call after the other
-unfoldable pub ledgerAnswers : List Call → Ledger → List (Option Answer)
+unfoldable pub ledgerAnswers : List Call → Ledger → List (Option Told)
 ledgerAnswers [] L = []
 ledgerAnswers (x ∷ xs) L = ledgerAnswer x L ∷ ledgerAnswers xs (ledgerAfter x L)
 

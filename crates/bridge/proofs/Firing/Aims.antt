@@ -26,7 +26,7 @@ use Rattle.scope.specs.declared.outcome.Nodes.{Nodes}
 use Rattle.scope.specs.declared.outcome.Taken.the-variants.{Got, Not}
 use Rattle.scope.specs.declared.outcome.Firing.{Firing}
 use Rattle.scope.specs.declared.outcome.Firing.the-variants.{Refuse}
-use Rattle.tree.specs.Rewrite.{mk, ruleOn, when, within, rewriteTop, propagated, rotated, doubled}
+use Rattle.tree.specs.Rewrite.{mk, ruleOn, Test, when, within, rewriteTop, fireTop, propagated, rotated, doubled}
 use Rattle.tree.proofs.Firing.Steps.{by-side, top-is}
 use Rattle.tree.proofs.Firing.Sides.{times-mk}
 use Rattle.bridge.specs.Below.{Hangs, Below}
@@ -48,14 +48,14 @@ unfolding takeOf
 take-none t c a b e = refl
 
 module _ (t : List ℕ) (Q : Tree → List ℕ → Type 0) where
-  alike-by : {o o′ : Option Tree} {f f′ : Firing} → o ≡ o′ → f ≡ f′ → Alike t Q o′ f′ → Alike t Q o f
-  alike-by e g h = rw (e, g) h
+  alike-by : {g g′ o o′ : Option Tree} {f f′ : Firing} → g ≡ g′ → o ≡ o′ → f ≡ f′ → Alike t Q g′ o′ f′ → Alike t Q g o f
+  alike-by d e g h = rw (d, e, g) h
 
   -- the guard first, then the limit
   judge : (k : Kind) (s : Side) (n : Nodes) (v u w : Pair) (T : Tree) → v ≡ seen s (n .sv) → u ≡ seen s (n .su)
       → w ≡ seen s (n .sw)
       → (highest k v u w ≤ mostHeight → Q T (written t (actionAt (ruleOn k s) n)))
-      → Alike t Q (when (within mostHeight k v u w) T) (judged (ruleOn k s) n)
+      → Alike t Q (when (guard k v u w) T) (when (within mostHeight k v u w) T) (judged (ruleOn k s) n)
   unfolding judged guardAt highestAt
   judge k s n v u w T ev eu ew q =
       let g : guardAt (ruleOn k s) n ≡ guard k v u w = rw (ev, eu, ew) refl in
@@ -132,26 +132,35 @@ module _ (t : List ℕ) (c : ℕ) (l : Link) where
         ∙ got-w Double s lu (apart _ (u-in l s dv du v u m n far h)) (λ q. x-y l s dv du v u m n far h (sym q)) refl
 
     abbrev Same : Kind → Type 0
-    Same k = Alike t (At (mk s dv v (mk s du u m n) far)) (rewriteTop (within mostHeight) (ruleOn k s) (mk s dv v (mk s du u m n) far)) (aimV t c (ruleOn k s) l)
+    Same k =
+        let S = mk s dv v (mk s du u m n) far in
+        Alike t (At S) (fireTop (ruleOn k s) S) (rewriteTop (within mostHeight) (ruleOn k s) S) (aimV t c (ruleOn k s) l)
 
     single : (k : Kind) → hasThird k ≡ false → (T : Tree)
-        → rewriteTop (within mostHeight) (ruleOn k s) (mk s dv v (mk s du u m n) far) ≡ when (within mostHeight k v u u) T
+        → ((test : Test) → rewriteTop test (ruleOn k s) (mk s dv v (mk s du u m n) far) ≡ when (test k v u u) T)
         → (highest k v u u ≤ mostHeight → At (mk s dv v (mk s du u m n) far) T (written t (actionAt (ruleOn k s) pairs)))
         → Same k
     single k e T top act =
-        alike-by t _ top (aims k e) (judge t _ k s pairs v u u T (lv .registers) (lu .registers) (lu .registers) act)
+        alike-by t _ (top guard) (top (within mostHeight)) (aims k e)
+        (judge t _ k s pairs v u u T (lv .registers) (lu .registers) (lu .registers) act)
 
     propagate-same : Same Propagate
     unfolding rewriteTop actionAt
-    propagate-same = single Propagate refl (propagated s dv du v u m n far) (simp top-is) (propagate-below l s dv du v u m n far h (y s) (slotAt t (y s)))
+    propagate-same =
+        single Propagate refl (propagated s dv du v u m n far) (λ test. simp top-is)
+        (propagate-below l s dv du v u m n far h (y s) (slotAt t (y s)))
 
     lean-same : Same Lean
     unfolding rewriteTop actionAt
-    lean-same = single Lean refl (rotated s dv du v u m n far) (simp top-is) (rotate-below l s dv du v u m n far h (y s) (slotAt t (y s)))
+    lean-same =
+        single Lean refl (rotated s dv du v u m n far) (λ test. simp top-is)
+        (rotate-below l s dv du v u m n far h (y s) (slotAt t (y s)))
 
     even-same : Same Even
     unfolding rewriteTop actionAt
-    even-same = single Even refl (rotated s dv du v u m n far) (simp top-is) (rotate-below l s dv du v u m n far h (y s) (slotAt t (y s)))
+    even-same =
+        single Even refl (rotated s dv du v u m n far) (λ test. simp top-is)
+        (rotate-below l s dv du v u m n far h (y s) (slotAt t (y s)))
 
   -- w is missing, or there
   module _ (s : Side) where
@@ -173,18 +182,19 @@ module _ (t : List ℕ) (c : ℕ) (l : Link) where
       twice-none : (h : Hangs t c l (mk s dv v (mk s du u m leaf) far)) → Same s dv du v u m leaf far h Double
       unfolding rewriteTop Spells
       twice-none h =
-          let top : rewriteTop (within mostHeight) (ruleOn Double s) (mk s dv v (mk s du u m leaf) far) ≡ none = simp top-is in
-          alike-by t _ top (aims-on s dv du v u m leaf far h ∙ no-w (look-u l s dv du v u m leaf far h .farSon)) guard-fails
+          let top : (test : Test) → rewriteTop test (ruleOn Double s) (mk s dv v (mk s du u m leaf) far) ≡ none = λ test. simp top-is in
+          alike-by t _ (top guard) (top (within mostHeight))
+          (aims-on s dv du v u m leaf far h ∙ no-w (look-u l s dv du v u m leaf far h .farSon)) guard-fails
 
       twice-full : (dw : Batch) (w : Pair) (e f : Tree) (h : Hangs t c l (mk s dv v (mk s du u m (mk s dw w e f)) far))
           → Same s dv du v u m (mk s dw w e f) far h Double
       unfolding rewriteTop actionAt
       twice-full dw w e f h =
-          let top : rewriteTop (within mostHeight) (ruleOn Double s) (mk s dv v (mk s du u m (mk s dw w e f)) far)
-          ≡ when (within mostHeight Double v u w) (doubled s dv du v u dw w m e f far) = simp top-is in
+          let top : (test : Test) → rewriteTop test (ruleOn Double s) (mk s dv v (mk s du u m (mk s dw w e f)) far)
+          ≡ when (test Double v u w) (doubled s dv du v u dw w m e f far) = λ test. simp top-is in
           let a = look-w l s dv du dw v u w m e f far h in
           let ne = not-holder l s dv du v u m (mk s dw w e f) far h z (w-in l s dv du dw v u w m e f far h .once) in
-          alike-by t _ top
+          alike-by t _ (top guard) (top (within mostHeight))
           (aims-on s dv du v u m (mk s dw w e f) far h
           ∙ got-third a ne (λ q. x-z l s dv du dw v u w m e f far h (sym q)) (λ q. y-z l s dv du dw v u w m e f far h (sym q)))
           (judge t _ Double s (three l s dv du dw v u w m e f far h) v u w (doubled s dv du v u dw w m e f far)
@@ -203,7 +213,7 @@ module _ (t : List ℕ) (c : ℕ) (l : Link) where
 
   -- AT A LINK: the firing on words is the one at the top of the tree that hangs there
   abbrev pub SameAt : Rule → Tree → Type 0
-  SameAt r S = Hangs t c l S → Alike t (At S) (rewriteTop (within mostHeight) r S) (aimV t c r l)
+  SameAt r S = Hangs t c l S → Alike t (At S) (fireTop r S) (rewriteTop (within mostHeight) r S) (aimV t c r l)
 
   none-same : (r : Rule) → SameAt r leaf
   unfolding rewriteTop
@@ -212,11 +222,11 @@ module _ (t : List ℕ) (c : ℕ) (l : Link) where
   one-same : (k : Kind) (s : Side) (dv : Batch) (v : Pair) (far : Tree) → SameAt (ruleOn k s) (mk s dv v leaf far)
   unfolding rewriteTop Spells
   one-same k s dv v far h =
-      let top : rewriteTop (within mostHeight) (ruleOn k s) (mk s dv v leaf far) ≡ none = simp top-is in
+      let top : (test : Test) → rewriteTop test (ruleOn k s) (mk s dv v leaf far) ≡ none = λ test. simp top-is in
       let a = look t c x dv v leaf far s (h .spells) in
       let once : 1 ≤ times x (mk s dv v leaf far)
       = omega (arith, times-mk s dv v leaf far x, ap (λ (d : Batch). same x (d .slot)) (a .holds), same-one x x refl) in
-      alike-by t _ top
+      alike-by t _ (top guard) (top (within mostHeight))
       (got-v k s a (λ q. omega (arith, ap (λ (j : ℕ). times j (mk s dv v leaf far)) q, h .apart)) ∙ no-u k s (slotAt t x) (a .nearSon))
       guard-fails
 

@@ -2,7 +2,6 @@
 use Prim.Native.Nat.{ℕ, _≤_, _/_, _%_}
 use mathlib.Core.Path.{_≡_, refl}
 use mathlib.Core.Bool.{not, _&&_}
-use mathlib.Core.Option.{Option, none, some}
 use mathlib.Core.List.{List, []}
 use native.Mathlib.Omega.{arith}
 use native.Mathlib.Decide.{decLe, ℕ-discrete}
@@ -13,27 +12,21 @@ use Rattle.scope.proofs.Bools.{by-bool}
 use Rattle.scope.specs.Numbers.{rootLink, slotsOf, sideOf, linkOf, knownLink, ruleOf}
 use Rattle.scope.specs.Table.{slotWords, slotsIn}
 use Rattle.scope.specs.Tree.{Tree, times}
-use Rattle.scope.specs.Fire.{aimed, onRule, onLink, firePlan, fired, fireOf}
+use Rattle.scope.specs.Fire.{aimed, firePlan}
 use Rattle.scope.specs.declared.rule.Rule.{Rule}
-use Rattle.scope.specs.declared.rule.RuleIs.{RuleIs}
 use Rattle.scope.specs.declared.rule.RuleIs.the-variants as rule-is
 use Rattle.scope.specs.declared.side.Side.{Side}
 use Rattle.scope.specs.declared.side.Side.the-variants.{Left}
 use Rattle.scope.specs.declared.side.SideIs.{SideIs}
 use Rattle.scope.specs.declared.side.SideIs.the-variants as side-is
 use Rattle.scope.specs.declared.side.Link.{Link}
-use Rattle.scope.specs.declared.side.LinkIs.{LinkIs}
 use Rattle.scope.specs.declared.side.LinkIs.the-variants as link-is
 use Rattle.scope.specs.declared.slots.SlotsIs.the-variants.{Within}
-use Rattle.scope.specs.declared.outcome.Firing.{Firing}
-use Rattle.scope.specs.declared.outcome.Firing.the-variants.{Refuse, Fire}
 use Rattle.spelling.specs.Ready.{Sized}
 use Rattle.spelling.specs.Whole.{Whole}
-use Rattle.tree.specs.Rewrite.{acceptAt}
 use Rattle.tree.specs.Place.{subtree}
-use Rattle.bridge.specs.Alike.{guard-fails, Alike}
 use Rattle.bridge.specs.Leads.{linkAlong, Leads}
-use Rattle.bridge.specs.Fired.{Fired, FireEnds, at-way, no-way, FireDone, accepts, out-of-range, unmet}
+use Rattle.bridge.specs.Fired.{FireEnds, at-way, no-way}
 use Rattle.bridge.proofs.Links.Ways.{leads, leads-holder}
 use Rattle.spelling.proofs.Frame.{same-none}
 use Rattle.bridge.proofs.Firing.Fires.{hangs-root, same-way, free-holder}
@@ -104,32 +97,6 @@ module _ {t : List ℕ} {c : ℕ} (w : Whole t c) where
           | no h ↦ rw (free-holder w r l (omega arith) (i .most) (omega arith)) (no-way (none-leads l (omega arith) (omega arith)))
         ]
       ])
-
-  alike-done : (r : Rule) (way : List Side) (o : Option Tree) (f : Firing) → acceptAt way r T ≡ o
-      → Alike t (λ T′ t′. Fired t t′ c T T′) o f → FireDone t c T (fired t f)
-  unfolding fired
-  alike-done r way none (Refuse why) e a = unmet a
-  alike-done r way none (Fire q n) e a = absurd a
-  alike-done r way (some T′) (Refuse why) e a = absurd a
-  alike-done r way (some T′) (Fire q n) e a = accepts way r T′ e a
-
-  ends-done : (r : Rule) (l : Link) (f : Firing) → FireEnds t c T r l f → FireDone t c T (fired t f)
-  unfolding fired
-  ends-done r l f (at-way p a) = alike-done r (p .way) (acceptAt (p .way) r T) f refl a
-  ends-done r l f (no-way n) = unmet guard-fails
-
-  plan-done : (holder side : ℕ) (a : RuleIs) (b : LinkIs) → linkOf c holder side ≡ b
-      → FireDone t c T (fired t (onRule a (λ r. onLink b (λ l. aimed t c r l))))
-  unfolding fired
-  plan-done holder side rule-is.Unknown b e = out-of-range
-  plan-done holder side (rule-is.Known r) link-is.Unknown e = out-of-range
-  plan-done holder side (rule-is.Known r) (link-is.Known l) e =
-      ends-done r l (aimed t c r l) (fire-ends r l (link-in c holder side l e))
-
-  -- THE CALL on a sound table: accepted as on the tree, and sound again; or refused with 2, 8 or 9
-  pub fire-done : (rule holder side : ℕ) → FireDone t c T (fireOf t rule holder side)
-  unfolding fireOf firePlan
-  fire-done rule holder side = rw (sized-slots (w .sized)) (plan-done holder side (ruleOf rule) (linkOf c holder side) refl)
 
   -- with numbers that name a rule and a link, it is that rule at that link
   pub plan-is : (rule holder side : ℕ) (r : Rule) (l : Link) → ruleOf rule ≡ rule-is.Known r

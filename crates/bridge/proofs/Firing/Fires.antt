@@ -26,7 +26,7 @@ use Rattle.spelling.specs.Whole.{Whole}
 use Rattle.spelling.proofs.Frame.{none-at-0}
 use Rattle.spelling.proofs.Once.{once-all}
 use Rattle.spelling.proofs.Spell.{tree-in}
-use Rattle.tree.specs.Rewrite.{acceptAt, within}
+use Rattle.tree.specs.Rewrite.{fireAt, acceptAt, within}
 use Rattle.tree.proofs.Firing.Keeps.{keeps, times-kept, size-kept}
 use Rattle.tree.proofs.Firing.Order.{ordered-kept}
 use Rattle.bridge.specs.Below.{Hangs, Below}
@@ -87,7 +87,8 @@ module _ {t : List ℕ} {c : ℕ} (w : Whole t c) where
 
   -- what comes out below the root leaves the table sound
   sound-alike : (r : Rule) (way : List Side) (o : Option Tree) (f : Firing) → acceptAt way r T ≡ o
-      → Alike t (λ T′ t′. Below t t′ c rootLink T T′) o f → Alike t (λ T′ t′. Fired t t′ c T T′) o f
+      → Alike t (λ T′ t′. Below t t′ c rootLink T T′) (fireAt way r T) o f
+      → Alike t (λ T′ t′. Fired t t′ c T T′) (fireAt way r T) o f
   sound-alike r way none (Refuse why) e a = a
   sound-alike r way none (Fire q n) e a = a
   sound-alike r way (some T′) (Refuse why) e a = a
@@ -95,7 +96,7 @@ module _ {t : List ℕ} {c : ℕ} (w : Whole t c) where
 
   -- ON A SOUND TABLE, at the link that a way leads to: accepted on words exactly if on the tree, and then they spell what comes of it
   pub same-way : (r : Rule) (l : Link) (p : Leads t rootLink T l)
-      → Alike t (λ T′ t′. Fired t t′ c T T′) (acceptAt (p .way) r T) (aim t c r l)
+      → Alike t (λ T′ t′. Fired t t′ c T T′) (fireAt (p .way) r T) (acceptAt (p .way) r T) (aim t c r l)
   same-way r l p =
       rw (← p .ends)
       (sound-alike r (p .way) (acceptAt (p .way) r T) _ refl

@@ -24,7 +24,8 @@ use Rattle.bridge.specs.Edit.{edited, shape}
 use Rattle.bridge.specs.Below.{Hangs, Below}
 use Rattle.bridge.proofs.Links.Edited.{Rewritten, rewritten}
 use Rattle.bridge.proofs.Links.Looks.{shape-self, near-son, far-son, near-register, far-register, fit-from, Looks, look, spell}
-use Rattle.bridge.proofs.Links.Outside.{same-one, Away, StandsIn, InTree, in-inside, steady, steady-root, outside-slots, outside-root, left-slots, left-root, stays}
+use Rattle.bridge.proofs.Links.Outside.{same-one, Away, StandsIn, InTree, in-inside, steady, steady-root, stays}
+use Rattle.bridge.proofs.Links.Outside.{outside-slots, outside-root, left-slots, left-root}
 
 -- v over its near son u, at link l
 module _ {t : List ℕ} {c : ℕ} (l : Link) (s : Side) (dv du : Batch) (v u : Pair) (m n far : Tree)

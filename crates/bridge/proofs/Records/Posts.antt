@@ -1,7 +1,7 @@
 -- A leaf in a free slot, hung where its key belongs: the table is sound, and spells the grown tree. Assumes nothing.
 use Prim.Native.Nat.{ℕ, _+_, _≤_, _<_}
 use mathlib.Core.Path.{_≡_, refl, sym, _∙_, ap}
-use mathlib.Core.Bool.{true, not}
+use mathlib.Core.Bool.{true}
 use mathlib.Core.Option.{none, some}
 use mathlib.Core.List.{List, [], _∷_}
 use native.Mathlib.Omega.{arith}
@@ -60,7 +60,8 @@ along-same t t′ c (s ∷ way) l T S p e h q =
     (λ d x near far i p h.
     let a = look t c (word t (linkAt l)) d x near far s p in
     let down : Link = record { holder = word t (linkAt l); side = s } in
-    let here : times (word t (linkAt l)) (mk s d x near far) ≡ same (word t (linkAt l)) (word t (linkAt l)) + (times (word t (linkAt l)) near + times (word t (linkAt l)) far)
+    let here : times (word t (linkAt l)) (mk s d x near far)
+    ≡ same (word t (linkAt l)) (word t (linkAt l)) + (times (word t (linkAt l)) near + times (word t (linkAt l)) far)
     = times-mk s d x near far _ ∙ rw (ap (λ (b : Batch). b .slot) (a .holds)) refl in
     let there = h (word t (linkAt l)) (omega (arith, here, same-one (word t (linkAt l)) (word t (linkAt l)) refl)) in
     rw e

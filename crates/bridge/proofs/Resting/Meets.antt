@@ -2,7 +2,7 @@
 use Prim.Native.Nat.{ℕ, _≤_}
 use mathlib.Core.Path.{_≡_, refl}
 use mathlib.Core.Bool.{true, false, not, _&&_}
-use mathlib.Core.Option.{some}
+use mathlib.Core.Option.{Option, some}
 use mathlib.Core.List.{List}
 use native.Mathlib.Omega.{arith}
 use lib.Dec.{leb, eqb}
@@ -119,10 +119,10 @@ module _ (t : List ℕ) (c : ℕ) (test : Test) (l : Link) where
       (λ du u m n. comes-two (r .kind) (r .side) dv du v u m n far))
 
 -- a firing that comes out on the tree does so on words
-fires-out : (t : List ℕ) (Q : Tree → List ℕ → Type 0) (T : Tree) {X : Type 0} (f : Firing) → Alike t Q (some T) f
-    → ((q : Rule) (n : Nodes) → f ≡ Fire q n → X) → X
-fires-out t Q T (Refuse why) a k = absurd a
-fires-out t Q T (Fire q n) a k = k q n refl
+fires-out : (t : List ℕ) (Q : Tree → List ℕ → Type 0) (g : Option Tree) (T : Tree) {X : Type 0} (f : Firing)
+    → Alike t Q g (some T) f → ((q : Rule) (n : Nodes) → f ≡ Fire q n → X) → X
+fires-out t Q g T (Refuse why) a k = absurd a
+fires-out t Q g T (Fire q n) a k = k q n refl
 
 module _ {t : List ℕ} {c : ℕ} (w : Whole t c) (r : Rule) where
   abbrev T : Tree
@@ -146,7 +146,7 @@ module _ {t : List ℕ} {c : ℕ} (w : Whole t c) (r : Rule) where
       let m = due-meets e in
       let o = meets-there (within mostHeight) v i j m in
       let a = rw (o .2) at (same-way w r (linkTo t c v) (o .0)) in
-      let f : Fires t c r (linkTo t c v) = fires-out t _ _ _ a (λ q n x. fires-so q n t c r (linkTo t c v) x) in
+      let f : Fires t c r (linkTo t c v) = fires-out t _ _ _ _ a (λ q n x. fires-so q n t c r (linkTo t c v) x) in
       rw (link-to w v i j (v-some m) .1) at (f .is)
 
   -- AND WHAT IS ACCEPTED ON THE TREE is due at the slot there
@@ -158,4 +158,4 @@ module _ {t : List ℕ} {c : ℕ} (w : Whole t c) (r : Rule) where
       let lead : Leads t rootLink T l = record { way = way; tree = p .from; there = p .there; ends = refl } in
       let a = rw e at (same-way w r l lead) in
       let h = hangs-along way rootLink T (p .from) (hangs-root w) (p .there) in
-      (fires-out t _ _ _ a (λ q n x. fires-so q n t c r l x), h .most)
+      (fires-out t _ _ _ _ a (λ q n x. fires-so q n t c r l x), h .most)

@@ -59,7 +59,8 @@ module _ (t : List ℕ) (rule holder side : ℕ) where
   judges : (r : Rule) (n : Nodes) → Fires listed (judged r n)
   unfolding judged
   judges r n =
-      either (Fires listed) (guardAt r n) (either (Fires listed) (leb (highestAt r n) mostHeight) fires (not-fire TooHigh refl)) (not-fire GuardFails refl)
+      either (Fires listed) (guardAt r n)
+      (either (Fires listed) (leb (highestAt r n) mostHeight) fires (not-fire TooHigh refl)) (not-fire GuardFails refl)
 
   module _ (c : ℕ) (r : Rule) (link : Link) where
     w-may : (v : ℕ) (sv : Slot) (u : ℕ) (su : Slot) → Fires listed (aimW t c r link v sv u su)

@@ -2,7 +2,10 @@
 use Prim.Native.Nat.{ℕ}
 use mathlib.Core.Path.{_≡_, refl, sym, ap}
 use mathlib.Core.Bool.{true}
-use mathlib.Core.List.{List}
+use mathlib.Core.List.{List, _∷_}
+use native.Mathlib.Decide.{ℕ-discrete}
+use lib.Dec.{eqb}
+use Rattle.scope.proofs.Bools.{or-on}
 use Rattle.scope.specs.Table.{word, changeWord}
 use Rattle.scope.specs.Answers.{Done, codeOf, accepted, refusal}
 use Rattle.scope.specs.Sound.{treeIn}
@@ -10,8 +13,9 @@ use Rattle.scope.specs.Sums.{checkAnswer, totalOf, totalAnswer}
 use Rattle.scope.specs.Worth.{worthOf, worthAnswer}
 use Rattle.scope.specs.Calls.{Call, Start, Check, Find, Post, Amend, Drop, Rank, Total, Worth, Fire, Tidy, answerOf, tableOf}
 use Rattle.scope.specs.declared.answer.Refusal.{Refusal}
-use Rattle.demands.specs.Listed.{codes, among, Answered, accepts, refuses}
-use Rattle.demands.proofs.First.Refusals.{start-answered, whole-answered, tidy-answered, rank-answered, find-answered, post-answered, amend-answered, drop-answered}
+use Rattle.demands.specs.Listed.{codes, among, Refuses, onlyCode, Answered, accepts, refuses}
+use Rattle.demands.proofs.First.Refusals.{start-answered, whole-answered, tidy-answered, rank-answered}
+use Rattle.demands.proofs.First.Refusals.{find-answered, post-answered, amend-answered, drop-answered}
 use Rattle.demands.proofs.First.FireRefusals.{fire-answered}
 
 -- DEMAND 1: every call, for any words and arguments
@@ -43,5 +47,17 @@ says x t d e (accepts z) ne = absurd (ne z)
 says x t d e (refuses why l) ne =
     record { why = why; answer = ap (λ (y : Done). y .answer) (sym e); words = ap (λ (y : Done). y .words) (sym e); listed = l }
 
-pub refused-is : (x : Call) (t : List ℕ) → (answerOf x t .code ≡ 0 → ⊥) → Refused x t
+pub refused-is : (x : Call) (t : List ℕ) → Refuses x t → Refused x t
 refused-is x t = says x t (record { answer = answerOf x t; words = tableOf x t }) refl (answered x t)
+
+-- so every refusal has four zeros after its code
+pub refused-zeros : (x : Call) (t : List ℕ) → Refuses x t → answerOf x t ≡ onlyCode (answerOf x t)
+refused-zeros x t ne = let r = refused-is x t ne in rw (r .answer) refl
+
+-- and every code is 0 or listed
+pub code-listed : (x : Call) (t : List ℕ) → among (answerOf x t .code) (0 ∷ codes x) ≡ true
+code-listed x t =
+    elim (ℕ-discrete (answerOf x t .code) 0) [
+      | yes z ↦ rw z refl
+      | no ne ↦ let r = refused-is x t ne in rw (r .answer) (or-on (eqb (codeOf (r .why)) 0) _ (r .listed))
+    ]

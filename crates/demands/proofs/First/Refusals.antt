@@ -2,7 +2,7 @@
 use Prim.Native.Nat.{ℕ, _-_}
 use mathlib.Core.Path.{_≡_, refl}
 use mathlib.Core.Bool.{Bool, true, false, cond, not, _&&_}
-use mathlib.Core.List.{List, [], _∷_}
+use mathlib.Core.List.{List}
 use lib.ListN.{length}
 use lib.Dec.{eqb, ltb}
 use Rattle.scope.proofs.Bools.{neither}
@@ -18,7 +18,7 @@ use Rattle.scope.specs.Drop.{dropping, leftmostFrom, ifMay, replacing, dropAt, 
 use Rattle.scope.specs.Sound.{soundTable, treeIn}
 use Rattle.scope.specs.Sums.{soundGate, rankOf, ranked, rankAnswer}
 use Rattle.scope.specs.Tidy.{tidying, tidyFrom, tidied, tidyOf}
-use Rattle.scope.specs.Calls.{Start, Find, Post, Amend, Drop, Rank, Tidy}
+use Rattle.scope.specs.Calls.{Start, Check, Find, Post, Amend, Drop, Rank, Tidy}
 use Rattle.scope.specs.declared.answer.Answer.{Answer}
 use Rattle.scope.specs.declared.answer.Refusal.{Refusal}
 use Rattle.scope.specs.declared.answer.Refusal.the-variants.{WrongLength, OutOfRange, Damaged, KeyPresent, KeyAbsent, NoFreeSlot, LastChange}
@@ -67,10 +67,10 @@ abbrev only : List ℕ → Answer → Done
 only t a = record { answer = a; words = t }
 
 module _ (t listed : List ℕ) (good : Bool) (whole : ℕ → Bool) (F : Gate → Done) where
-  -- a gate that is shut has the code 1, 2 or 3
-  by-gate : ((why : Refusal) → F (Shut why) ≡ refused t why) → among 1 listed ≡ true
-      → (good ≡ false → among 2 listed ≡ true)
-      → ((c : ℕ) → whole c ≡ false → among 3 listed ≡ true) → ((c : ℕ) → Answered listed t (F (Open c)))
+  -- a gate that is shut says why
+  by-gate : ((why : Refusal) → F (Shut why) ≡ refused t why) → among (codeOf WrongLength) listed ≡ true
+      → (good ≡ false → among (codeOf OutOfRange) listed ≡ true)
+      → ((c : ℕ) → whole c ≡ false → among (codeOf Damaged) listed ≡ true) → ((c : ℕ) → Answered listed t (F (Open c)))
       → Answered listed t (F (gate t good whole))
   unfolding gate
   by-gate shut one two three within = on (slotsIn (length t))
@@ -88,13 +88,15 @@ module _ (t : List ℕ) where
   pub start-answered : Answered (codes Start) t (startOf t)
   unfolding startOf
   start-answered =
-      by-gate t (codes Start) true (λ c. true) (started t) (λ why. refl) refl (λ e. neither refl e) (λ c e. neither refl e) (λ c. accepts refl)
+      by-gate t (codes Start) true (λ c. true) (started t)
+      (λ why. refl) refl (λ e. neither refl e) (λ c e. neither refl e) (λ c. accepts refl)
 
   -- calls that want a sound table and have no argument to test
   pub whole-answered : (f : ℕ → Answer) → ((c : ℕ) → f c .code ≡ 0)
-      → Answered (1 ∷ 3 ∷ []) t (only t (answering (soundGate t true) f))
+      → Answered (codes Check) t (only t (answering (soundGate t true) f))
   whole-answered f h =
-      by-gate t (1 ∷ 3 ∷ []) true (λ c. soundTable t c) (λ g. only t (answering g f)) (λ why. refl) refl (λ e. neither refl e) (λ c e. refl) (λ c. accepts (h c))
+      by-gate t (codes Check) true (λ c. soundTable t c) (λ g. only t (answering g f))
+      (λ why. refl) refl (λ e. neither refl e) (λ c e. refl) (λ c. accepts (h c))
 
   pub tidy-answered : (budget : ℕ) → Answered (codes (Tidy budget)) t (tidyOf t budget)
   unfolding tidyOf tidied

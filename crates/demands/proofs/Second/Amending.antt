@@ -11,15 +11,13 @@ use lib.Dec.{ltb}
 use Rattle.scope.proofs.Bools.{by-bool}
 use Rattle.scope.specs.Numbers.{rootLink, lastChange}
 use Rattle.scope.specs.Table.{word, changeWord, slotAt, withSlot, written}
-use Rattle.scope.specs.Fit.{headerOk}
 use Rattle.scope.specs.Tree.{Batch, Tree}
 use Rattle.scope.specs.Sound.{treeIn}
-use Rattle.scope.specs.Answers.{refused, gate}
+use Rattle.scope.specs.Answers.{refused}
 use Rattle.scope.specs.Post.{recordOk}
 use Rattle.scope.specs.Amend.{withPieces, amendingAt, amendPlan, amended, amendOf}
 use Rattle.scope.specs.declared.answer.Refusal.{Refusal}
 use Rattle.scope.specs.declared.answer.Refusal.the-variants.{OutOfRange, KeyAbsent, LastChange}
-use Rattle.scope.specs.declared.answer.Gate.the-variants.{Shut, Open}
 use Rattle.scope.specs.declared.side.Link.{Link}
 use Rattle.spelling.specs.Ready.{Sized}
 use Rattle.spelling.specs.Whole.{Whole}
@@ -33,10 +31,9 @@ use Rattle.ledger.specs.Entries.{replace}
 use Rattle.ledger.specs.Ledger.{Ledger, entry, kept, entered, onEntry, amendIn}
 use Rattle.demands.specs.Ledgers.{ledgerOf, AsLedger}
 use Rattle.ledger.specs.OfTree.{entriesOf}
-use Rattle.demands.proofs.Open.{gate-opens}
-use Rattle.demands.proofs.Third.Walks.{walk-tree}
+use Rattle.demands.proofs.Open.{header-gate, walk-tree}
 use Rattle.ledger.proofs.Entries.{mapEntry, amended-entries}
-use Rattle.demands.proofs.Second.Answers.{gate-range, lookup-is}
+use Rattle.demands.proofs.Second.Answers.{lookup-is}
 
 -- a refusal leaves both as they were
 pub both-refuse : {t : List ℕ} {c : ℕ} → Whole t c → (why : Refusal)
@@ -66,7 +63,9 @@ module _ {t : List ℕ} {c : ℕ} (w : Whole t c) (key pieces state : ℕ) (ok :
 
     change-after : word (after d) changeWord ≡ word t changeWord + 1
     unfolding withSlot written
-    change-after = getD-set-same (withSlot t (d .slot) (withPieces (slotAt t (d .slot)) pieces state)) changeWord (word t changeWord + 1) 0 (simp length-set (omega (arith, w .sized .room)))
+    change-after =
+        getD-set-same (withSlot t (d .slot) (withPieces (slotAt t (d .slot)) pieces state)) changeWord
+        (word t changeWord + 1) 0 (simp length-set (omega (arith, w .sized .room)))
 
     entries-after : entriesOf (treeIn (after d) c) ≡ replace (entry key pieces state) (L .entries)
     entries-after =
@@ -96,9 +95,9 @@ pub amend-ledger : {t : List ℕ} {c : ℕ} → Whole t c → (key pieces state 
     → AsLedger (amendOf t key pieces state) c (amendIn key pieces state (ledgerOf t c))
 unfolding amendOf amendPlan amended
 amend-ledger {t} {c} w key pieces state =
-    by-bool (recordOk key pieces state)
-    (λ ok. let opens : gate t (recordOk key pieces state) (λ n. headerOk n t) ≡ Open c = gate-opens _ _ (w .sized) ok (w .sound .header) in
-    rw (opens, ok, ← lookup-is w key, walk-tree w key)
-    (walked w key pieces state ok (seek key (w .sound .tree)) (linkAlong t (route key (w .sound .tree)) rootLink) (visits key (w .sound .tree)) refl))
-    (λ no-ok. let shut : gate t (recordOk key pieces state) (λ n. headerOk n t) ≡ Shut OutOfRange = gate-range _ _ (w .sized) no-ok in
-    rw (shut, no-ok) (both-refuse w OutOfRange))
+    let T = w .sound .tree in
+    rw (header-gate w (recordOk key pieces state))
+    (by-bool (recordOk key pieces state)
+    (λ ok. rw (ok, ← lookup-is w key, walk-tree w key)
+    (walked w key pieces state ok (seek key T) (linkAlong t (route key T) rootLink) (visits key T) refl))
+    (λ no-ok. rw no-ok (both-refuse w OutOfRange)))

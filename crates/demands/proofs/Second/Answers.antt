@@ -1,7 +1,7 @@
 -- Demand 2: on a sound table find, rank and total answer as the ledger does. Assumes nothing.
 use Prim.Native.Nat.{ℕ}
 use mathlib.Core.Path.{_≡_, refl, sym, _∙_, ap}
-use mathlib.Core.Bool.{Bool, true, false, cond, not}
+use mathlib.Core.Bool.{true, cond, not}
 use mathlib.Core.Option.{Option, none, some}
 use mathlib.Core.List.{List}
 use native.Mathlib.Omega.{arith}
@@ -10,27 +10,22 @@ use lib.Dec.{eqb, ltb, leb}
 use Rattle.scope.proofs.Bools.{by-bool}
 use Rattle.scope.specs.Numbers.{rootLink}
 use Rattle.scope.specs.Table.{word, rootWord, changeWord, slotAt}
-use Rattle.scope.specs.Fit.{headerOk}
 use Rattle.scope.specs.Tree.{Batch, Tree, leaf, node, inOrder}
 use Rattle.scope.specs.Sound.{Spells, batchAt, treeIn}
-use Rattle.scope.specs.Answers.{refusal, accepted, gate}
+use Rattle.scope.specs.Answers.{refusal, accepted}
 use Rattle.scope.specs.Find.{foundIn, findAnswer}
-use Rattle.scope.specs.Sums.{soundGate, pick, rankOf, ranked, rankAnswer, totalAnswer}
-use Rattle.scope.specs.declared.answer.Refusal.the-variants.{OutOfRange, KeyAbsent}
-use Rattle.scope.specs.declared.answer.Gate.the-variants.{Shut, Open}
+use Rattle.scope.specs.Sums.{pick, rankOf, ranked, rankAnswer, totalAnswer}
+use Rattle.scope.specs.declared.answer.Refusal.the-variants.{KeyAbsent}
 use Rattle.scope.specs.declared.side.Link.{Link}
-use Rattle.spelling.specs.Ready.{Sized}
 use Rattle.spelling.specs.Whole.{Whole}
 use Rattle.spelling.proofs.Spell.{tree-in}
 use Rattle.bridge.specs.Leads.{linkAlong}
 use Rattle.tree.specs.Seek.{seek, route, visits, sought}
-use Rattle.bridge.proofs.Firing.Calls.{sized-slots}
 use Rattle.ledger.specs.Entries.{lookup}
 use Rattle.ledger.specs.Ledger.{foundEntry, findIn, rankIn, totalIn}
 use Rattle.demands.specs.Ledgers.{ledgerOf, noVisits, noSlot}
 use Rattle.ledger.specs.OfTree.{entryOf}
-use Rattle.demands.proofs.Open.{gate-opens, sound-opens}
-use Rattle.demands.proofs.Third.Walks.{walk-tree}
+use Rattle.demands.proofs.Open.{header-gate, sound-gate, walk-tree}
 use Rattle.ledger.proofs.Entries.{mapEntry, seek-lookup, total-sum}
 
 -- what a search finds stands in its slot
@@ -45,12 +40,6 @@ seek-slot t c key x (node b h g l r) p d e =
     (λ q. by-bool (ltb key (b .key))
     (λ f. seek-slot t c key (slotAt t x .left) l (p .left) d (simp (q, f) at e))
     (λ f. seek-slot t c key (slotAt t x .right) r (p .right) d (simp (q, f) at e)))
-
--- a gate whose arguments are out of range
-pub gate-range : {t : List ℕ} {c : ℕ} (good : Bool) (whole : ℕ → Bool) → Sized t c → good ≡ false
-    → gate t good whole ≡ Shut OutOfRange
-unfolding gate
-gate-range good whole z g = rw (sized-slots z, g) refl
 
 module _ {t : List ℕ} {c : ℕ} (w : Whole t c) where
   abbrev T : Tree
@@ -73,17 +62,17 @@ module _ {t : List ℕ} {c : ℕ} (w : Whole t c) where
   pub find-ledger : (key : ℕ) → noVisits (findAnswer t key) ≡ findIn key (ledgerOf t c)
   unfolding findAnswer
   find-ledger key =
-      by-bool (eqb key 0)
-      (λ e. let shut : gate t (not (eqb key 0)) (λ n. headerOk n t) ≡ Shut OutOfRange = gate-range _ _ (w .sized) (rw e refl) in
-      rw (shut, e) refl)
-      (λ e. let opens : gate t (not (eqb key 0)) (λ n. headerOk n t) ≡ Open c = gate-opens _ _ (w .sized) (rw e refl) (w .sound .header) in
-      rw (opens, e, walk-tree w key) (found-is key (seek key T) (linkAlong t (route key T) rootLink) (visits key T) refl
-      ∙ ap (foundEntry (word t changeWord)) (lookup-is key)))
+      rw (header-gate w (not (eqb key 0)))
+      (by-bool (eqb key 0)
+      (λ e. rw e refl)
+      (λ e. rw (e, walk-tree w key)
+      (found-is key (seek key T) (linkAlong t (route key T) rootLink) (visits key T) refl
+      ∙ ap (foundEntry (word t changeWord)) (lookup-is key))))
 
   -- TOTAL
   pub total-ledger : (K : ℕ) → totalAnswer t K ≡ totalIn K (ledgerOf t c)
   unfolding totalAnswer
-  total-ledger K = rw (sound-opens true w refl, total-sum K (treeIn t c)) refl
+  total-ledger K = rw (sound-gate w true, total-sum K (treeIn t c)) refl
 
   -- RANK, its slot apart
   picked : (r : ℕ) → noSlot (ranked t (rankOf r (treeIn t c)))
@@ -96,6 +85,4 @@ module _ {t : List ℕ} {c : ℕ} (w : Whole t c) where
   pub rank-ledger : (r : ℕ) → noSlot (rankAnswer t r) ≡ rankIn r (ledgerOf t c)
   unfolding rankAnswer
   rank-ledger r =
-      by-bool (eqb r 0)
-      (λ e. let shut : soundGate t (not (eqb r 0)) ≡ Shut OutOfRange = gate-range _ _ (w .sized) (rw e refl) in rw (shut, e) refl)
-      (λ e. let opens : soundGate t (not (eqb r 0)) ≡ Open c = sound-opens _ w (rw e refl) in rw (opens, e) (picked r))
+      rw (sound-gate w (not (eqb r 0))) (by-bool (eqb r 0) (λ e. rw e refl) (λ e. rw e (picked r)))

@@ -10,13 +10,11 @@ use borrow.Author.Tests.{ne-eqb}
 use Rattle.scope.proofs.Bools.{by-bool}
 use Rattle.scope.specs.Numbers.{rootLink, lastChange}
 use Rattle.scope.specs.Table.{word, countWord, changeWord}
-use Rattle.scope.specs.Fit.{headerOk}
 use Rattle.scope.specs.Tree.{Batch, Tree}
 use Rattle.scope.specs.Sound.{treeIn}
-use Rattle.scope.specs.Answers.{accepted, gate}
+use Rattle.scope.specs.Answers.{accepted}
 use Rattle.scope.specs.Drop.{counted, ifMay, droppingAt, dropPlan, dropped, dropOf}
 use Rattle.scope.specs.declared.answer.Refusal.the-variants.{OutOfRange, KeyAbsent, LastChange}
-use Rattle.scope.specs.declared.answer.Gate.the-variants.{Shut, Open}
 use Rattle.scope.specs.declared.outcome.Dropping.{Dropping}
 use Rattle.scope.specs.declared.side.Link.{Link}
 use Rattle.spelling.specs.Whole.{Whole}
@@ -29,10 +27,9 @@ use Rattle.ledger.specs.Entries.{Entry, remove}
 use Rattle.ledger.specs.Ledger.{Ledger, Entered, kept, entered, onEntry, dropIn}
 use Rattle.demands.specs.Ledgers.{ledgerOf, AsLedger}
 use Rattle.ledger.specs.OfTree.{entriesOf}
-use Rattle.demands.proofs.Open.{gate-opens}
-use Rattle.demands.proofs.Third.Walks.{walk-tree}
+use Rattle.demands.proofs.Open.{header-gate, walk-tree}
 use Rattle.ledger.proofs.Entries.{mapEntry, without-entries}
-use Rattle.demands.proofs.Second.Answers.{gate-range, lookup-is}
+use Rattle.demands.proofs.Second.Answers.{lookup-is}
 use Rattle.demands.proofs.Second.Amending.{both-refuse}
 
 module _ {t : List ℕ} {c : ℕ} (w : Whole t c) (key : ℕ) where
@@ -97,8 +94,7 @@ pub drop-ledger : {t : List ℕ} {c : ℕ} → Whole t c → (key : ℕ)
     → AsLedger (dropOf t key) c (dropIn key (ledgerOf t c))
 unfolding dropOf dropPlan
 drop-ledger {t} {c} w key =
-    by-bool (eqb key 0)
-    (λ e. let shut : gate t (not (eqb key 0)) (λ n. headerOk n t) ≡ Shut OutOfRange = gate-range _ _ (w .sized) (rw e refl) in
-    rw (shut, e) (unfold dropped in both-refuse w OutOfRange))
-    (λ e. let opens : gate t (not (eqb key 0)) (λ n. headerOk n t) ≡ Open c = gate-opens _ _ (w .sized) (rw e refl) (w .sound .header) in
-    rw (opens, e, ← lookup-is w key, walk-tree w key) (walked w key (seek key (w .sound .tree)) refl))
+    rw (header-gate w (not (eqb key 0)))
+    (by-bool (eqb key 0)
+    (λ e. rw e (unfold dropped in both-refuse w OutOfRange))
+    (λ e. rw (e, ← lookup-is w key, walk-tree w key) (walked w key (seek key (w .sound .tree)) refl)))

@@ -4,40 +4,56 @@ use mathlib.Core.Path.{_≡_, refl, sym, _∙_, ap}
 use mathlib.Core.Bool.{true}
 use mathlib.Core.List.{List, [], map}
 use native.Mathlib.Omega.{arith}
+use native.Mathlib.Decide.{ℕ-discrete}
 use lib.ListN.{length-replicate, getD-replicate}
 use Rattle.scope.specs.Table.{tableWords, word, changeWord}
 use Rattle.scope.specs.Tree.{leaf, inOrder}
 use Rattle.scope.specs.Sound.{Spells, treeIn}
 use Rattle.scope.specs.Answers.{Done, accepted, gate}
 use Rattle.scope.specs.Find.{startOf}
-use Rattle.scope.specs.Fire.{fireOf}
+use Rattle.scope.specs.Calls.{Fire}
 use Rattle.scope.specs.declared.answer.Gate.the-variants.{Open}
 use Rattle.spelling.specs.Ready.{Sized}
 use Rattle.spelling.specs.Whole.{Whole}
-use Rattle.spelling.proofs.Spell.{tree-in, only-tree}
+use Rattle.spelling.proofs.Spell.{only-tree}
 use Rattle.spelling.proofs.Zeros.{zeros, zeros-hold}
-use Rattle.bridge.specs.Fired.{FireDone, accepts, out-of-range, unmet}
-use Rattle.bridge.proofs.Firing.Calls.{fire-done}
-use Rattle.demands.proofs.Open.{gate-opens}
-use Rattle.demands.specs.Ledgers.{ledgerOf}
+use Rattle.bridge.specs.Fired.{Fired}
 use Rattle.ledger.specs.OfTree.{entriesOf, entryOf}
+use Rattle.demands.specs.Fires.{Trial, tried, Accepted}
+use Rattle.demands.specs.Firing.{Enabled}
+use Rattle.demands.specs.Ledgers.{ledgerOf}
+use Rattle.demands.proofs.Open.{gate-is}
+use Rattle.demands.proofs.First.Listed.{refused-is}
+use Rattle.demands.proofs.Second.Exact.{fire-exact}
 
 -- sound again, and the same ledger
 pub record SameLedger (t : List ℕ) (c : ℕ) (d : Done) : Type 0 where
   pub whole : Whole (d .words) c
   pub ledger : ledgerOf (d .words) c ≡ ledgerOf t c
 
-same : {t : List ℕ} {c : ℕ} (w : Whole t c) (d : Done) → FireDone t c (w .sound .tree) d → SameLedger t c d
-same {t} {c} w d (accepts {t′ = t′} way r T′ e f) =
-    let es : entriesOf (treeIn t′ c) ≡ entriesOf (treeIn t c)
-    = ap entriesOf (f .tree) ∙ ap (map entryOf) (f .records) ∙ ap entriesOf (sym (tree-in t c (w .sound))) in
+-- an attempted firing is accepted and does what it does, or it is refused and leaves every word
+pub data Fares (t : List ℕ) (c : ℕ) (x : Trial) : Type 0 where
+  acted : (e : Enabled t c x) → Accepted t x → Fired t (tried t x .words) c (treeIn t c) (e .tree) → Fares t c x
+  unmoved : (Accepted t x → ⊥) → tried t x .words ≡ t → Fares t c x
+
+pub fares : {t : List ℕ} {c : ℕ} → Whole t c → (x : Trial) → Fares t c x
+fares {t} w x =
+    let f = fire-exact w x in
+    elim (ℕ-discrete (tried t x .answer .code) 0) [
+      | yes z ↦ let e = f .accepts .only-if z in acted e z (f .acts e)
+      | no ne ↦ unmoved ne (refused-is (Fire (x .rule) (x .holder) (x .side)) t ne .words)
+    ]
+
+same : {t : List ℕ} {c : ℕ} → Whole t c → (x : Trial) → Fares t c x → SameLedger t c (tried t x)
+same {t} {c} w x (acted e z f) =
+    let es : entriesOf (treeIn (tried t x .words) c) ≡ entriesOf (treeIn t c)
+    = ap entriesOf (f .tree) ∙ ap (map entryOf) (f .records) in
     record { whole = f .whole; ledger = rw (es, f .head changeWord (omega arith) (omega arith)) refl }
-same w d out-of-range = record { whole = w; ledger = refl }
-same w d (unmet u) = record { whole = w; ledger = refl }
+same w x (unmoved ne e) = rw e (record { whole = w; ledger = refl })
 
 -- FIRE leaves the ledger as it was
-pub fire-ledger : {t : List ℕ} {c : ℕ} → Whole t c → (rule holder side : ℕ) → SameLedger t c (fireOf t rule holder side)
-fire-ledger {t} w rule holder side = same w (fireOf t rule holder side) (fire-done w rule holder side)
+pub fire-ledger : {t : List ℕ} {c : ℕ} → Whole t c → (x : Trial) → SameLedger t c (tried t x)
+fire-ledger w x = same w x (fares w x)
 
 -- START on a table of any size: accepted, and the empty ledger
 pub record Started (c : ℕ) (d : Done) : Type 0 where
@@ -62,6 +78,6 @@ zeros-started c z =
 pub start-ledger : {t : List ℕ} {c : ℕ} → Sized t c → Started c (startOf t)
 unfolding startOf
 start-ledger {t} {c} z =
-    let opens : gate t true (λ n. true) ≡ Open c = gate-opens true (λ n. true) z refl refl in
+    let opens : gate t true (λ n. true) ≡ Open c = gate-is (λ n. true) z refl true in
     rw (opens, ← z .room)
     (zeros-started c (record { room = sym (length-replicate (tableWords c) 0); some = z .some; most = z .most }))

@@ -1,5 +1,5 @@
 -- Demand 2: on a sound table post answers and leaves what it does on the ledger. Assumes nothing.
-use Prim.Native.Nat.{ℕ, _+_, _≤_, _<_}
+use Prim.Native.Nat.{ℕ, _+_, _≤_}
 use mathlib.Core.Path.{_≡_, refl, sym, _∙_, ap}
 use mathlib.Core.Bool.{true, cond}
 use mathlib.Core.Option.{Option, none, some}
@@ -7,17 +7,14 @@ use mathlib.Core.List.{List}
 use native.Mathlib.Omega.{arith}
 use lib.ListN.{length}
 use lib.Dec.{ltb}
-use borrow.Author.Tests.{ne-eqb, ltb-false}
+use borrow.Author.Tests.{ne-eqb, lt-ltb, le-ltb}
 use Rattle.scope.proofs.Bools.{by-bool}
 use Rattle.scope.specs.Numbers.{rootLink, lastChange}
 use Rattle.scope.specs.Table.{word, countWord, changeWord}
-use Rattle.scope.specs.Fit.{headerOk}
 use Rattle.scope.specs.Tree.{Batch, Tree, size}
 use Rattle.scope.specs.Sound.{treeIn}
-use Rattle.scope.specs.Answers.{gate}
 use Rattle.scope.specs.Post.{recordOk, freeSlot, hangAt, postingAt, postPlan, leafSlot, posted, postOf}
 use Rattle.scope.specs.declared.answer.Refusal.the-variants.{OutOfRange, KeyPresent, NoFreeSlot, LastChange}
-use Rattle.scope.specs.declared.answer.Gate.the-variants.{Shut, Open}
 use Rattle.scope.specs.declared.side.Link.{Link}
 use Rattle.spelling.specs.Whole.{Whole}
 use Rattle.spelling.proofs.Spell.{tree-in}
@@ -29,14 +26,10 @@ use Rattle.ledger.specs.Entries.{Entry, insert}
 use Rattle.ledger.specs.Ledger.{Ledger, entry, kept, entered, onEntry, postIn}
 use Rattle.demands.specs.Ledgers.{ledgerOf, AsLedger}
 use Rattle.ledger.specs.OfTree.{entriesOf}
-use Rattle.demands.proofs.Open.{gate-opens}
-use Rattle.demands.proofs.Third.Walks.{walk-tree}
-use Rattle.ledger.proofs.Entries.{mapEntry, entries-size, not-less, grown-entries}
-use Rattle.demands.proofs.Second.Answers.{gate-range, lookup-is}
+use Rattle.demands.proofs.Open.{header-gate, walk-tree}
+use Rattle.ledger.proofs.Entries.{mapEntry, entries-size, grown-entries}
+use Rattle.demands.proofs.Second.Answers.{lookup-is}
 use Rattle.demands.proofs.Second.Amending.{both-refuse}
-
-less : (a b : ℕ) → a < b → ltb a b ≡ true
-less a b h = by-bool (ltb a b) (λ e. e) (λ e. absurd (omega (arith, ltb-false a b e)))
 
 module _ {t : List ℕ} {c : ℕ} (w : Whole t c) (key pieces state : ℕ) (ok : recordOk key pieces state ≡ true) where
   abbrev T : Tree
@@ -62,7 +55,7 @@ module _ {t : List ℕ} {c : ℕ} (w : Whole t c) (key pieces state : ℕ) (ok :
     unfolding posted hangAt
     hangs k (full h) =
         let most = no-room w (λ j i m. h j i (omega arith)) in
-        rw (not-less (length (L .entries)) c (omega (arith, records))) (both-refuse w NoFreeSlot)
+        rw (le-ltb (length (L .entries)) c (omega (arith, records))) (both-refuse w NoFreeSlot)
     hangs k (free first low high e) =
         let most : k ≤ c = omega arith in
         let z = unreached w k e in
@@ -75,10 +68,10 @@ module _ {t : List ℕ} {c : ℕ} (w : Whole t c) (key pieces state : ℕ) (ok :
         ∙ ap (λ (x : Tree). insert (entry key pieces state) (entriesOf x)) (sym (tree-in t c (w .sound))) in
         let change = posted-change w key pieces state ok absent k first most z room in
         rw (
-          less (length (L .entries)) c (omega (arith, records)),
+          lt-ltb (length (L .entries)) c (omega (arith, records)),
           ne-eqb k 0 (λ q. omega arith),
           blank,
-          less (word t countWord) c (omega (arith, w .sound .count)),
+          lt-ltb (word t countWord) c (omega (arith, w .sound .count)),
         )
         (by-bool (ltb (word t changeWord) lastChange)
         (λ q. rw q (record {
@@ -100,9 +93,8 @@ pub post-ledger : {t : List ℕ} {c : ℕ} → Whole t c → (key pieces state :
     → AsLedger (postOf t key pieces state) c (postIn key pieces state (ledgerOf t c))
 unfolding postOf postPlan posted
 post-ledger {t} {c} w key pieces state =
-    by-bool (recordOk key pieces state)
-    (λ ok. let opens : gate t (recordOk key pieces state) (λ n. headerOk n t) ≡ Open c = gate-opens _ _ (w .sized) ok (w .sound .header) in
-    rw (opens, ok, ← lookup-is w key, walk-tree w key)
+    rw (header-gate w (recordOk key pieces state))
+    (by-bool (recordOk key pieces state)
+    (λ ok. rw (ok, ← lookup-is w key, walk-tree w key)
     (walked w key pieces state ok (seek key (w .sound .tree)) refl (visits key (w .sound .tree))))
-    (λ no-ok. let shut : gate t (recordOk key pieces state) (λ n. headerOk n t) ≡ Shut OutOfRange = gate-range _ _ (w .sized) no-ok in
-    rw (shut, no-ok) (both-refuse w OutOfRange))
+    (λ no-ok. rw no-ok (both-refuse w OutOfRange)))

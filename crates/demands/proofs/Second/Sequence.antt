@@ -3,22 +3,23 @@ use Prim.Native.Nat.{ℕ}
 use mathlib.Core.Path.{_≡_, refl, _∙_, ap}
 use mathlib.Core.Option.{some}
 use mathlib.Core.List.{List, [], _∷_}
-use Rattle.scope.specs.Calls.{Call, Start, Check, Find, Post, Amend, Drop, Rank, Total, Worth, Fire, Tidy, tableOf, answers, after}
+use Rattle.scope.specs.Calls.{Call, Start, Check, Find, Post, Amend, Drop, Rank, Total, Worth, Fire, Tidy, tableOf, after}
 use Rattle.scope.specs.declared.answer.Answer.{Answer}
 use Rattle.spelling.specs.Ready.{Sized}
 use Rattle.spelling.specs.Whole.{Whole}
-use Rattle.ledger.specs.Sequence.{ledgerAnswer, ledgerAfter, ledgerAnswers, ledgerAfterAll}
+use Rattle.ledger.specs.Sequence.{plain, ledgerAnswer, ledgerAfter, ledgerAnswers, ledgerAfterAll}
 use Rattle.demands.specs.Sequence.{apart, allApart, SameCall, SameCalls}
 use Rattle.demands.proofs.Open.{check-whole}
 use Rattle.demands.proofs.Second.Answers.{find-ledger, rank-ledger, total-ledger}
+use Rattle.demands.proofs.Second.Ranks.{rank-record}
 use Rattle.demands.proofs.Second.Posting.{post-ledger}
 use Rattle.demands.proofs.Second.Amending.{amend-ledger}
 use Rattle.demands.proofs.Second.Dropping.{drop-ledger}
 use Rattle.demands.proofs.Second.Firing.{fire-ledger, start-ledger}
-use Rattle.demands.proofs.Third.Tidied.{tidy-ledger}
+use Rattle.demands.proofs.Second.Tidying.{tidy-ledger}
 
-abbrev told : {a b : Answer} → a ≡ b → some a ≡ some b
-told e = ap (λ (a : Answer). some a) e
+abbrev told : {a b : Answer} → a ≡ b → some (plain a) ≡ some (plain b)
+told e = ap (λ (a : Answer). some (plain a)) e
 
 -- start asks for nothing but the length
 start-same : {t : List ℕ} {c : ℕ} → Sized t c → SameCall Start t c
@@ -42,11 +43,12 @@ call-ledger w (Amend key pieces state) =
 call-ledger w (Drop key) =
     let d = drop-ledger w key in
     record { answer = told (d .answer); whole = d .whole; ledger = d .ledger }
-call-ledger w (Rank r) = record { answer = told (rank-ledger w r); whole = w; ledger = refl }
+call-ledger w (Rank r) =
+    record { answer = λ i. some (record { answer = rank-ledger w r i; shows = rank-record w r i }); whole = w; ledger = refl }
 call-ledger w (Total K) = record { answer = told (total-ledger w K); whole = w; ledger = refl }
 call-ledger w Worth = record { answer = refl; whole = w; ledger = refl }
 call-ledger w (Fire rule holder side) =
-    let d = fire-ledger w rule holder side in
+    let d = fire-ledger w (record { rule = rule; holder = holder; side = side }) in
     record { answer = refl; whole = d .whole; ledger = d .ledger }
 call-ledger w (Tidy budget) =
     let d = tidy-ledger w budget in
@@ -55,7 +57,7 @@ call-ledger w (Tidy budget) =
 -- a call, and then the others
 and-then : {t : List ℕ} {c : ℕ} (x : Call) (xs : List Call) → SameCall x t c → SameCalls xs (tableOf x t) c
     → SameCalls (x ∷ xs) t c
-unfolding allApart answers after ledgerAnswers ledgerAfterAll
+unfolding allApart after ledgerAnswers ledgerAfterAll
 and-then x xs s r =
     record {
       each = rw (s .answer, r .each, s .ledger) refl;
@@ -65,7 +67,7 @@ and-then x xs s r =
 
 -- ANY CALLS from a sound table
 pub calls-ledger : {t : List ℕ} {c : ℕ} → Whole t c → (xs : List Call) → SameCalls xs t c
-unfolding allApart answers after ledgerAnswers ledgerAfterAll
+unfolding allApart after ledgerAnswers ledgerAfterAll
 calls-ledger w [] = record { each = refl; whole = w; ledger = refl }
 calls-ledger w (x ∷ xs) =
     let s = call-ledger w x in

@@ -1,19 +1,23 @@
--- Demand 3: tidy is its firings, each one an accepted call of fire. Assumes nothing.
+-- Demand 2: tidy is its firings, each one an accepted call of fire. Assumes nothing.
 use Prim.Native.Nat.{ℕ, zero, suc, _+_}
 use mathlib.Core.Path.{_≡_, refl, _∙_, ap}
-use mathlib.Core.Bool.{true}
+use mathlib.Core.Bool.{true, cond}
 use mathlib.Core.List.{List, [], _∷_}
 use native.Mathlib.Omega.{arith}
 use lib.ListN.{length}
+use Rattle.scope.proofs.Bools.{by-bool}
 use Rattle.scope.specs.Table.{word, changeWord}
+use Rattle.scope.specs.Sound.{treeIn}
 use Rattle.scope.specs.Answers.{Done, accepted}
 use Rattle.scope.specs.Fire.{aimed, firePlan, fired, fireOf}
-use Rattle.scope.specs.Tidy.{nodesAt, linkTo, nextOf, firedAt, tidyFrom, tidied, tidyOf, tidyTable}
+use Rattle.scope.specs.Tidy.{nodesAt, linkTo, nextOf, firedAt, quiet, tidyFrom, tidied, tidyOf, tidyAnswer, tidyTable}
 use Rattle.scope.specs.Calls.{answers, after}
+use Rattle.scope.specs.declared.answer.Answer.{Answer}
 use Rattle.scope.specs.declared.outcome.Next.{Next}
 use Rattle.scope.specs.declared.outcome.Next.the-variants.{At, Nothing}
 use Rattle.scope.specs.declared.outcome.Firing.the-variants.{Fire}
 use Rattle.spelling.specs.Whole.{Whole}
+use Rattle.tree.specs.Shape.{Quiet}
 use Rattle.bridge.specs.Leads.{sideNumber}
 use Rattle.bridge.proofs.Firing.Calls.{plan-is}
 use Rattle.bridge.proofs.Resting.Linked.{link-to}
@@ -21,11 +25,12 @@ use Rattle.bridge.proofs.Resting.Meets.{v-some, due-meets, due-fires}
 use Rattle.bridge.specs.Due.{Due}
 use Rattle.bridge.proofs.Resting.Searches.{next-due}
 use Rattle.ledger.specs.Ledger.{Ledger}
-use Rattle.demands.specs.Fires.{Trial}
-use Rattle.demands.specs.Tidying.{trialAt, tried, Firings, rests, spent, next, Stopped, all-spent, at-rest, Ran, Tidies}
-use Rattle.demands.proofs.Open.{sound-opens}
-use Rattle.demands.proofs.Third.Stuck.{link-known}
-use Rattle.demands.proofs.Second.Firing.{fire-ledger}
+use Rattle.demands.specs.Exactly.{Exactly}
+use Rattle.demands.specs.Fires.{Trial, tried}
+use Rattle.demands.specs.Tidying.{trialAt, Firings, rests, spent, next, Stopped, all-spent, at-rest, Ran, Tidies}
+use Rattle.demands.proofs.Open.{sound-gate, rest-exactly}
+use Rattle.demands.proofs.Second.Due.{link-known}
+use Rattle.demands.proofs.Second.Firing.{SameLedger, fire-ledger}
 
 -- A RULE THAT IS DUE is accepted by fire, which does what tidy does
 pub due-tried : {t : List ℕ} {c : ℕ} → Whole t c → (v n : ℕ) → Due t c v n
@@ -76,7 +81,7 @@ step : {left : ℕ} {t : List ℕ} {c made : ℕ} → Whole t c → (x : Next) �
 step w Nothing e again = none-more e
 step {left} {t} {c} w (At v n) e again =
     let x = trialAt t c v n in
-    let s = fire-ledger w (x .rule) (x .holder) (x .side) in
+    let s = fire-ledger w x in
     one-more w v n e (again (firedAt t c v n) (rw (next-fires w v n e) at (s .whole)))
 
 run : (left : ℕ) {t : List ℕ} {c : ℕ} (made : ℕ) → Whole t c → Run t c left made
@@ -98,7 +103,7 @@ firings-run w spent =
     record { table = refl; replies = refl; most = omega arith; stopped = all-spent refl; whole = w; ledger = refl }
 firings-run {t} {t′} {c} w (next {xs = xs} v n e a f) =
     let x = trialAt t c v n in
-    let s = fire-ledger w (x .rule) (x .holder) (x .side) in
+    let s = fire-ledger w x in
     let r = firings-run (s .whole) f in
     let same : word (tried t x .words) changeWord ≡ word t changeWord = ap (λ (l : Ledger). l .change) (s .ledger) in
     record {
@@ -113,7 +118,7 @@ firings-run {t} {t′} {c} w (next {xs = xs} v n e a f) =
 -- the call on a sound table
 tidy-opens : {t : List ℕ} {c : ℕ} → Whole t c → (budget : ℕ) → tidyOf t budget ≡ tidied t c (tidyFrom budget c t 0)
 unfolding tidyOf
-tidy-opens w budget = rw (sound-opens true w refl) refl
+tidy-opens w budget = rw (sound-gate w true) refl
 
 -- TIDY IS ITS FIRINGS
 pub tidy-is : {t : List ℕ} {c : ℕ} → Whole t c → (budget : ℕ) → Tidies t c budget
@@ -129,3 +134,26 @@ tidy-is {t} {c} w budget =
       run = rw words (firings-run w (r .firings));
       answer = ap (λ (d : Done). d .answer) is ∙ rw (count, words) refl;
     }
+
+module _ {t : List ℕ} {c : ℕ} (w : Whole t c) (budget : ℕ) where
+  abbrev u : List ℕ
+  u = tidyTable t budget
+
+  does : Tidies t c budget
+  does = tidy-is w budget
+
+  -- TIDY LEAVES THE LEDGER as it was, whatever the budget
+  pub tidy-ledger : SameLedger t c (tidyOf t budget)
+  tidy-ledger = record { whole = does .run .whole; ledger = does .run .ledger }
+
+  pub tidy-more : tidyAnswer t budget .more ≡ cond (quiet u c) 1 0
+  tidy-more = ap (λ (a : Answer). a .more) (does .answer)
+
+  at-rest-then : tidyAnswer t budget .more ≡ 1 → quiet u c ≡ true
+  at-rest-then e = by-bool (quiet u c) (λ p. p) (λ p. absurd (omega (arith, e, rw p at tidy-more)))
+
+  -- MORE IS 1 EXACTLY IF NO GUARD HOLDS in the tree that is left; a guard that the height limit stops holds too
+  pub tidy-rests : Exactly (tidyAnswer t budget .more ≡ 1) (Quiet (treeIn u c))
+  tidy-rests =
+      let rest = rest-exactly (does .run .whole) in
+      record { whenever = λ q. tidy-more ∙ rw (rest .whenever q) refl; only-if = λ e. rest .only-if (at-rest-then e) }

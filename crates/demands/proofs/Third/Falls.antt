@@ -1,56 +1,44 @@
 -- Demand 3: the worth falls at every accepted fire; no list of attempts has more accepted ones. Assumes nothing.
 use Prim.Native.Nat.{ℕ, _+_, _≤_, _<_}
-use mathlib.Core.Path.{_≡_, sym, _∙_, ap}
+use mathlib.Core.Path.{ap}
 use mathlib.Core.Bool.{cond}
 use mathlib.Core.List.{List, [], _∷_}
 use native.Mathlib.Omega.{arith}
 use lib.Dec.{eqb}
 use borrow.Author.Tests.{ne-eqb}
 use Rattle.scope.specs.Numbers.{mostHeight}
-use Rattle.scope.specs.Answers.{Done, codeOf}
-use Rattle.scope.specs.Worth.{worthOf, worthAnswer}
-use Rattle.scope.specs.Fire.{fireOf, fireAnswer, fireTable}
+use Rattle.scope.specs.Sound.{treeIn}
+use Rattle.scope.specs.Worth.{worthOf}
 use Rattle.scope.specs.Calls.{answers, after}
 use Rattle.spelling.specs.Whole.{Whole}
-use Rattle.spelling.proofs.Spell.{tree-in}
 use Rattle.tree.proofs.Worth.Fall.{worth-falls}
 use Rattle.tree.proofs.Rest.Quiet.{accepted-fires}
-use Rattle.bridge.specs.Fired.{FireDone, accepts, out-of-range, unmet}
-use Rattle.bridge.proofs.Firing.Calls.{fire-done}
-use Rattle.demands.specs.Fires.{Trial, fires, acceptedIn}
-use Rattle.demands.proofs.Open.{some-code, worth-whole}
+use Rattle.demands.specs.Fires.{worthIn, Trial, tried, Accepted, fires, acceptedIn}
+use Rattle.demands.specs.Firing.{Enabled}
+use Rattle.demands.proofs.Second.Firing.{Fares, acted, unmoved, fares, fire-ledger}
 
--- the worth that the call tells of the words after an outcome, and 1 if it was accepted
-abbrev spent : Done → ℕ
-spent d = cond (eqb (d .answer .code) 0) 1 0 + worthAnswer (d .words) .value
+-- the published action lowers the worth of the tree
+enabled-falls : (t : List ℕ) (c : ℕ) (x : Trial) (e : Enabled t c x) → worthOf (e .tree) < worthIn t c
+enabled-falls t c x e =
+    let p = e .at in
+    worth-falls (p .leads .way) (p .named .rule) (treeIn t c) (e .tree)
+    (accepted-fires mostHeight (p .leads .way) (p .named .rule) (treeIn t c) (e .tree) (e .is))
 
--- what one call spends, and that the table is sound after it
-record One (t : List ℕ) (c : ℕ) (d : Done) : Type 0 where
-  whole : Whole (d .words) c
-  less : spent d ≤ worthAnswer t .value
+-- an attempt costs 1 of the worth if it is accepted, and nothing if not
+costs : {t : List ℕ} {c : ℕ} (x : Trial) → Fares t c x
+    → cond (eqb (tried t x .answer .code) 0) 1 0 + worthIn (tried t x .words) c ≤ worthIn t c
+costs {t} {c} x (acted e z f) = rw z (omega (arith, enabled-falls t c x e, ap worthOf (f .tree)))
+costs {t} {c} x (unmoved ne same) =
+    rw (ne-eqb (tried t x .answer .code) 0 ne) (omega (arith, ap (λ (u : List ℕ). worthIn u c) same))
 
-one : {t : List ℕ} {c : ℕ} (w : Whole t c) (d : Done) → FireDone t c (w .sound .tree) d → One t c d
-one {t} {c} w d (accepts {t′ = t′} way r T′ e f) =
-    let fall : worthOf T′ < worthOf (w .sound .tree)
-    = worth-falls way r (w .sound .tree) T′ (accepted-fires mostHeight way r (w .sound .tree) T′ e) in
-    let is : f .whole .sound .tree ≡ T′ = sym (tree-in t′ c (f .whole .sound)) ∙ f .tree in
-    record { whole = f .whole; less = omega (arith, worth-whole w, worth-whole (f .whole), ap worthOf is) }
-one w d out-of-range = record { whole = w; less = omega arith }
-one w d (unmet {why = why} u) =
-    record { whole = w; less = rw (ne-eqb (codeOf why) 0 (some-code why)) (omega arith) }
-
--- THE WORTH FALLS: what the call worth answers is smaller after every accepted call of fire
-pub worth-falls-at : {t : List ℕ} {c : ℕ} → Whole t c → (rule holder side : ℕ) → fireAnswer t rule holder side .code ≡ 0
-    → worthAnswer (fireTable t rule holder side) .value < worthAnswer t .value
-worth-falls-at {t} w rule holder side e =
-    let o = one w (fireOf t rule holder side) (fire-done w rule holder side) in
-    omega (arith, rw e at (o .less))
+-- THE WORTH FALLS at every accepted call of fire
+pub worth-falls-at : {t : List ℕ} {c : ℕ} → Whole t c → (x : Trial) → Accepted t x
+    → worthIn (tried t x .words) c < worthIn t c
+worth-falls-at w x z = omega (arith, rw z at (costs x (fares w x)))
 
 -- NO MORE ARE ACCEPTED THAN THE WORTH, in any list of attempts; what is left of it is the worth at the end
 pub spends : {t : List ℕ} {c : ℕ} → Whole t c → (xs : List Trial)
-    → acceptedIn (answers (fires xs) t) + worthAnswer (after (fires xs) t) .value ≤ worthAnswer t .value
+    → acceptedIn (answers (fires xs) t) + worthIn (after (fires xs) t) c ≤ worthIn t c
 unfolding answers after acceptedIn
 spends w [] = omega arith
-spends {t} w (x ∷ xs) =
-    let o = one w (fireOf t (x .rule) (x .holder) (x .side)) (fire-done w (x .rule) (x .holder) (x .side)) in
-    omega (arith, o .less, spends (o .whole) xs)
+spends w (x ∷ xs) = omega (arith, costs x (fares w x), spends (fire-ledger w x .whole) xs)

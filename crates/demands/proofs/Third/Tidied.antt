@@ -1,31 +1,26 @@
--- Demands 2 and 3: tidy keeps the ledger, fires no more than the worth, and rests with enough budget. Assumes nothing.
+-- Demand 3: the worth is bounded; tidy fires no more often than the worth, and rests with enough budget. Assumes nothing.
 use Prim.Native.Nat.{ℕ, _+_, _*_, _≤_}
 use mathlib.Core.Path.{_≡_, refl, _∙_, ap}
-use mathlib.Core.Bool.{true, cond}
+use mathlib.Core.Bool.{true}
 use mathlib.Core.List.{List, [], _∷_, map}
 use native.Mathlib.Omega.{arith}
 use lib.ListN.{length}
-use Rattle.scope.proofs.Bools.{by-bool}
 use Rattle.scope.specs.Table.{word, changeWord, countWord}
 use Rattle.scope.specs.Sound.{treeIn}
 use Rattle.scope.specs.Answers.{Done, accepted}
-use Rattle.scope.specs.Worth.{worthAnswer, largestCarry, largestBalance}
-use Rattle.scope.specs.Tidy.{nextOf, quiet, tidyOf, tidyAnswer, tidyTable}
+use Rattle.scope.specs.Worth.{largestCarry, largestBalance}
+use Rattle.scope.specs.Tidy.{nextOf, quiet, tidyAnswer, tidyTable}
 use Rattle.scope.specs.declared.answer.Answer.{Answer}
 use Rattle.scope.specs.declared.outcome.Next.{Next}
 use Rattle.scope.specs.declared.outcome.Next.the-variants.{At, Nothing}
 use Rattle.spelling.specs.Whole.{Whole}
 use Rattle.spelling.proofs.Spell.{tree-in}
-use Rattle.tree.specs.Shape.{Quiet}
 use Rattle.tree.proofs.Worth.Bound.{worth-bound}
-use Rattle.bridge.proofs.Resting.Quiets.{quiet-tree}
 use Rattle.bridge.proofs.Resting.Rests.{quiet-words, none-due}
-use Rattle.demands.specs.Fires.{Trial, acceptedIn}
+use Rattle.demands.specs.Fires.{worthIn, Trial, acceptedIn}
 use Rattle.demands.specs.Tidying.{trialAt, Tidies, Stopped, all-spent, at-rest}
-use Rattle.demands.proofs.Open.{worth-whole}
 use Rattle.demands.proofs.Third.Falls.{worth-falls-at, spends}
-use Rattle.demands.proofs.Second.Firing.{SameLedger}
-use Rattle.demands.proofs.Second.Tidying.{next-fires, tidy-is}
+use Rattle.demands.proofs.Second.Tidying.{next-fires, tidy-is, tidy-more}
 
 -- the same reply to each is as many accepted ones
 all-accepted : (change : ℕ) (xs : List Trial) → acceptedIn (map (λ x. accepted change 0 0 0) xs) ≡ length xs
@@ -36,18 +31,18 @@ all-accepted change (x ∷ xs) = omega (arith, all-accepted change xs)
 module _ {t : List ℕ} {c : ℕ} (w : Whole t c) where
   -- THE WORTH IS BOUNDED by the number of records, the largest carry and the largest balance
   pub worth-most : (let T = treeIn t c in let n = word t countWord in
-      worthAnswer t .value ≤ 6 * largestCarry T * n * (n + 1) + 3 * largestBalance T * n)
+      worthIn t c ≤ 6 * largestCarry T * n * (n + 1) + 3 * largestBalance T * n)
   worth-most =
-      rw (tree-in t c (w .sound), worth-whole w, ← w .sound .count) (worth-bound (w .sound .tree))
+      rw (tree-in t c (w .sound), ← w .sound .count) (worth-bound (w .sound .tree))
 
   -- a rule that is due costs worth
-  next-worth : (v n : ℕ) → nextOf t c ≡ At v n → 1 ≤ worthAnswer t .value
+  next-worth : (v n : ℕ) → nextOf t c ≡ At v n → 1 ≤ worthIn t c
   next-worth v n e =
       let x = trialAt t c v n in
       let code = ap (λ (d : Done). d .answer .code) (next-fires w v n e) in
-      omega (arith, worth-falls-at w (x .rule) (x .holder) (x .side) code)
+      omega (arith, worth-falls-at w x code)
 
-  none-left : worthAnswer t .value ≡ 0 → (x : Next) → nextOf t c ≡ x → nextOf t c ≡ Nothing
+  none-left : worthIn t c ≡ 0 → (x : Next) → nextOf t c ≡ x → nextOf t c ≡ Nothing
   none-left z Nothing e = e
   none-left z (At v n) e = absurd (omega (arith, next-worth v n e))
 
@@ -64,33 +59,16 @@ module _ {t : List ℕ} {c : ℕ} (w : Whole t c) (budget : ℕ) where
   value : tidyAnswer t budget .value ≡ length (does .trials)
   value = ap (λ (a : Answer). a .value) (does .answer)
 
-  -- TIDY LEAVES THE LEDGER as it was, whatever the budget
-  pub tidy-ledger : SameLedger t c (tidyOf t budget)
-  tidy-ledger = record { whole = does .run .whole; ledger = does .run .ledger }
-
   -- TIDY FIRES AT MOST AS OFTEN AS THE WORTH, and what is left of it is the worth at the end
-  pub tidy-worth : tidyAnswer t budget .value + worthAnswer u .value ≤ worthAnswer t .value
+  pub tidy-worth : tidyAnswer t budget .value + worthIn u c ≤ worthIn t c
   tidy-worth =
       let s = rw (does .run .table, does .run .replies) at (spends w (does .trials)) in
       omega (arith, s, value, all-accepted (word t changeWord) (does .trials))
 
-  more : tidyAnswer t budget .more ≡ cond (quiet u c) 1 0
-  more = ap (λ (a : Answer). a .more) (does .answer)
-
-  -- MORE IS 1 EXACTLY IF NO GUARD HOLDS in the tree that is left
-  pub tidy-rests : Quiet (treeIn u c) → tidyAnswer t budget .more ≡ 1
-  tidy-rests q = more ∙ rw (quiet-words (does .run .whole) (rw (tree-in u c (does .run .whole .sound)) at q)) refl
-
-  pub tidy-quiet : tidyAnswer t budget .more ≡ 1 → Quiet (treeIn u c)
-  tidy-quiet e =
-      by-bool (quiet u c)
-      (λ p. rw (tree-in u c (does .run .whole .sound)) (quiet-tree (does .run .whole) p))
-      (λ p. absurd (omega (arith, e, rw p at more)))
-
-  ended : worthAnswer t .value ≤ budget → Stopped u c (length (does .trials)) budget → nextOf u c ≡ Nothing
+  ended : worthIn t c ≤ budget → Stopped u c (length (does .trials)) budget → nextOf u c ≡ Nothing
   ended h (at-rest e) = e
   ended h (all-spent e) = none-left (does .run .whole) (omega (arith, tidy-worth, value)) (nextOf u c) refl
 
   -- ENOUGH BUDGET ENDS QUIET
-  pub tidy-enough : worthAnswer t .value ≤ budget → tidyAnswer t budget .more ≡ 1
-  tidy-enough h = more ∙ rw (rest-words (does .run .whole) (ended h (does .run .stopped))) refl
+  pub tidy-enough : worthIn t c ≤ budget → tidyAnswer t budget .more ≡ 1
+  tidy-enough h = tidy-more w budget ∙ rw (rest-words (does .run .whole) (ended h (does .run .stopped))) refl

@@ -52,10 +52,10 @@ module _ {t : List ℕ} {c : ℕ} (wh : Whole t c) (l : Link) (i : LinkIn c l) {
   fired-holds r j = rw (action-edits r (at r) j) (edited-holds (r .kind) (r .side) j)
 
 -- what comes out on the tree too leaves the table sound
-whole-after : (t : List ℕ) (c : ℕ) (T : Tree) (r : Rule) (n : Nodes) (a : Option Tree)
-    → Alike t (λ T′ t′. Fired t t′ c T T′) a (Fire r n) → Whole (written t (actionAt r n)) c
-whole-after t c T r n none a = absurd a
-whole-after t c T r n (some T′) a = a .whole
+whole-after : (t : List ℕ) (c : ℕ) (T : Tree) (r : Rule) (n : Nodes) (g a : Option Tree)
+    → Alike t (λ T′ t′. Fired t t′ c T T′) g a (Fire r n) → Whole (written t (actionAt r n)) c
+whole-after t c T r n g none a = absurd a
+whole-after t c T r n g (some T′) a = a .whole
 
 -- A DUE RULE LEAVES A SOUND TABLE SOUND
 pub fired-whole : {t : List ℕ} {c : ℕ} → Whole t c → (r : Rule) (v : ℕ) → 1 ≤ v → v ≤ c → dueAt t c r v ≡ true
@@ -63,5 +63,5 @@ pub fired-whole : {t : List ℕ} {c : ℕ} → Whole t c → (r : Rule) (v : ℕ
 fired-whole {t} {c} w r v i j e =
     let k = link-to w v i j (v-some (due-meets e)) in
     let p = way-to w (linkTo t c v) (k .0) (rw (k .1) i) in
-    whole-after t c (w .sound .tree) r _ (acceptAt (p .way) r (w .sound .tree))
+    whole-after t c (w .sound .tree) r _ _ (acceptAt (p .way) r (w .sound .tree))
     (rw (due-fires w r v i j e) at (same-way w r (linkTo t c v) p))

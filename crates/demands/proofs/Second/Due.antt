@@ -1,11 +1,12 @@
--- Demand 3: the calls of fire that a sound table accepts are those of the rules that are due. Assumes nothing.
-use Prim.Native.Nat.{ℕ}
+-- Demand 2: the calls of fire that a sound table accepts are those of the rules that are due. Assumes nothing.
+use Prim.Native.Nat.{ℕ, _≤_}
 use mathlib.Core.Path.{_≡_, refl, sym}
 use mathlib.Core.Bool.{not, _&&_}
 use mathlib.Core.List.{List}
 use native.Mathlib.Omega.{arith}
+use native.Mathlib.Decide.{ℕ-discrete}
 use lib.Dec.{eqb, ltb}
-use borrow.Author.Tests.{eqb-true}
+use borrow.Author.Tests.{eqb-true, ne-eqb, le-ltb}
 use Rattle.scope.proofs.Bools.{by-bool}
 use Rattle.scope.specs.Numbers.{rootLink, sideOf, linkOf, knownLink, ruleOf}
 use Rattle.scope.specs.Table.{word, linkAt}
@@ -15,6 +16,7 @@ use Rattle.scope.specs.declared.rule.Rule.{Rule}
 use Rattle.scope.specs.declared.rule.RuleIs.{RuleIs}
 use Rattle.scope.specs.declared.rule.RuleIs.the-variants as rule-is
 use Rattle.scope.specs.declared.side.Side.{Side}
+use Rattle.scope.specs.declared.side.Side.the-variants.{Left, Right}
 use Rattle.scope.specs.declared.side.SideIs.{SideIs}
 use Rattle.scope.specs.declared.side.SideIs.the-variants as side-is
 use Rattle.scope.specs.declared.side.Link.{Link}
@@ -34,11 +36,11 @@ use Rattle.bridge.proofs.Resting.Dues.{Fires, fires-so}
 use Rattle.bridge.proofs.Resting.Meets.{v-some, due-meets}
 use Rattle.bridge.specs.Due.{NotAfter}
 use Rattle.bridge.proofs.Resting.Searches.{next-first}
-use Rattle.demands.specs.Fires.{Trial}
-use Rattle.demands.specs.Tidying.{tried, DueTrial}
+use Rattle.demands.specs.Fires.{Trial, Accepted}
+use Rattle.demands.specs.Tidying.{DueTrial}
 use Rattle.demands.proofs.Open.{some-code}
 
--- the numbers of a link are its own
+-- numbers that name a link are its own
 side-numbers : (n : ℕ) (s : Side) → sideOf n ≡ side-is.Known s → sideNumber s ≡ n
 unfolding sideOf
 side-numbers n s e =
@@ -65,6 +67,25 @@ link-numbers c holder side l e =
     by-bool (ltb c holder)
     (λ p. let x = simp p at e in let z : _≡_ {A = ℕ} 0 1 = cc in absurd (omega arith))
     (λ p. known-numbers holder side (sideOf side) l refl (simp p at e))
+
+-- a link of a table has its numbers
+some-holder : (c k : ℕ) (s : Side) → k ≤ c → (k ≡ 0 → ⊥)
+    → linkOf c k (sideNumber s) ≡ link-is.Known (record { holder = k; side = s })
+unfolding linkOf sideOf
+some-holder c k Left h ne = rw (le-ltb c k h, ne-eqb k 0 ne) refl
+some-holder c k Right h ne = rw (le-ltb c k h, ne-eqb k 0 ne) refl
+
+root-known : (c : ℕ) → linkOf c 0 0 ≡ link-is.Known rootLink
+unfolding linkOf sideOf
+root-known c = rw (le-ltb c 0 (omega arith)) refl
+
+pub link-known : (c : ℕ) (l : Link) → l .holder ≤ c → (l .holder ≡ 0 → l ≡ rootLink)
+    → linkOf c (l .holder) (sideNumber (l .side)) ≡ link-is.Known l
+link-known c l h r =
+    elim (ℕ-discrete (l .holder) 0) [
+      | yes z ↦ rw (r z) (root-known c)
+      | no ne ↦ some-holder c (l .holder) (l .side) h ne
+    ]
 
 module _ {t : List ℕ} {c : ℕ} (w : Whole t c) where
   -- the slot at the link, and that its link is found
@@ -98,12 +119,11 @@ module _ {t : List ℕ} {c : ℕ} (w : Whole t c) where
       at-link x r l p q (aims-out r l (aim t c r l) refl (rw (w .sound .header) at e))
 
   -- WHAT FIRE ACCEPTS IS DUE, at the slot whose link it names
-  pub accepted-due : (x : Trial) → tried t x .answer .code ≡ 0 → DueTrial t c x
+  pub accepted-due : (x : Trial) → Accepted t x → DueTrial t c x
   unfolding fireOf firePlan
   accepted-due x e =
       named x (ruleOf (x .rule)) (linkOf c (x .holder) (x .side)) refl refl (rw (sized-slots (w .sized)) at e)
 
-  -- THE RULE THAT IS NEXT COMES FIRST of all that fire accepts: no lower slot, and no lower rule at the same slot
-  pub first-accepted : (v n : ℕ) → nextOf t c ≡ At v n → (x : Trial) (e : tried t x .answer .code ≡ 0)
-      → NotAfter v n (accepted-due x e .slot) (x .rule)
-  first-accepted v n q x e = next-first t c v n q (accepted-due x e .slot) (x .rule) (accepted-due x e .due)
+  -- THE RULE THAT IS NEXT COMES FIRST of all that are due: no lower slot, and no lower rule at the same slot
+  pub first-accepted : (v n : ℕ) → nextOf t c ≡ At v n → (x : Trial) (d : DueTrial t c x) → NotAfter v n (d .slot) (x .rule)
+  first-accepted v n q x d = next-first t c v n q (d .slot) (x .rule) (d .due)
