@@ -1,6 +1,5 @@
 // amend: other pieces and another state for a record that is there.
 use gate::next_change;
-use post::record_ok;
 use scope::Amending;
 use scope::Answer;
 use scope::Gate;
@@ -10,14 +9,14 @@ ghost use Rattle.scope.specs.Amend.{amendingAt, amendPlan, amended};
 ghost use Rattle.scope.specs.Calls.{Amend, Promise};
 ghost use Rattle.scope.specs.declared.outcome.Amending.the-variants.{Change};
 ghost use Rattle.spelling.specs.Ready.{Ready};
-ghost use Rattle.walk.specs.Walked.{Inside};
+ghost use Rattle.walk.specs.Walked.{WalkInside};
 ghost use Rattle.gate.specs.Ends.{Does};
 ghost use Rattle.amend.specs.Planned.{Changeable};
 ghost use Rattle.amend.specs.Planned.{AmendPlanned};
 
 // Tests 5 and 7.
 pub fn amending_at(t: &[u32], c: usize, w: Walk) -> Amending
-    requires { ⌜ Ready (now t) c × Inside c w ⌝ }
+    requires { ⌜ Ready (now t) c × WalkInside c w ⌝ }
     ensures { λ r. ⌜ AmendPlanned (now (t .entry)) (amendingAt (now (t .entry)) w) r ⌝ }
 {
     match w {
@@ -37,7 +36,7 @@ pub fn amending_at(t: &[u32], c: usize, w: Walk) -> Amending
 pub fn plan_amend(t: &[u32], key: u32, pieces: u32, state: u32) -> Amending
     ensures { λ r. ⌜ AmendPlanned (now (t .entry)) (amendPlan (now (t .entry)) key pieces state) r ⌝ }
 {
-    match gate::enter(t, record_ok(key, pieces, state)) {
+    match gate::enter(t, gate::record_ok(key, pieces, state)) {
         Gate::Shut(why) => Amending::Refuse(why),
         Gate::Open(c) => amending_at(t, c, walk::search(t, c, key)),
     }

@@ -23,17 +23,17 @@ pub record Hangs (t : List ℕ) (c : ℕ) (l : Link) (S : Tree) : Type 0 where
   pub apart : times (l .holder) S ≡ 0
 
 -- slot k with another number in its link, if it holds the link
-abbrev pub relinked : Link → ℕ → ℕ → Slot → Slot
-relinked l x k y = cond (eqb k (l .holder)) (withPart (sonOn (l .side)) x y) y
+abbrev pub slotRelinked : Link → ℕ → ℕ → Slot → Slot
+slotRelinked l x k y = cond (eqb k (l .holder)) (withPart (sonOn (l .side)) x y) y
 
 -- from t to t′ only the link, the slots of S below it and word 0 changed, and what hangs there now is S′
-pub record Below (t t′ : List ℕ) (c : ℕ) (l : Link) (S S′ : Tree) : Type 0 where
+pub record ChangedBelow (t t′ : List ℕ) (c : ℕ) (l : Link) (S S′ : Tree) : Type 0 where
   pub sized : Sized t′ c
   pub top : ℕ
   pub first : 1 ≤ top
   pub most : top ≤ c
   pub spells : Spells t′ c top S′
-  pub slots : (k : ℕ) → 1 ≤ k → times k S ≡ 0 → slotAt t′ k ≡ relinked l top k (slotAt t k)
+  pub slots : (k : ℕ) → 1 ≤ k → times k S ≡ 0 → slotAt t′ k ≡ slotRelinked l top k (slotAt t k)
   pub root : word t′ rootWord ≡ cond (eqb (l .holder) 0) top (word t rootWord)
   pub head : (i : ℕ) → 1 ≤ i → i < 4 → word t′ i ≡ word t i
 
@@ -48,6 +48,6 @@ pub record Cut (t t′ : List ℕ) (c : ℕ) (l : Link) (S S′ : Tree) : Type 0
   pub most : top ≤ c
   pub spells : Spells t′ c top S′
   pub slots : (k : ℕ) → 1 ≤ k → times k S ≡ 0
-      → slotAt t′ k ≡ cond (eqb top 0) (emptied l k (slotAt t k)) (relinked l top k (slotAt t k))
+      → slotAt t′ k ≡ cond (eqb top 0) (emptied l k (slotAt t k)) (slotRelinked l top k (slotAt t k))
   pub root : word t′ rootWord ≡ cond (eqb (l .holder) 0) top (word t rootWord)
   pub head : (i : ℕ) → 1 ≤ i → i < 4 → word t′ i ≡ word t i

@@ -24,7 +24,7 @@ pub data Plans (t : List ℕ) (c : ℕ) (l : Link) (S : Tree) : Dropping → Typ
       → Plans t c l S (Replace slot least link)
 
 -- the plan for a slot found at link l after so many visits
-pub record Planned (t : List ℕ) (c slot : ℕ) (l : Link) (seen : ℕ) (S : Tree) : Type 0 where
+pub record DropDone (t : List ℕ) (c slot : ℕ) (l : Link) (seen : ℕ) (S : Tree) : Type 0 where
   pub plan : Dropping
   pub is : dropAt t c slot l seen ≡ ifMay t plan
   pub plans : Plans t c l S plan

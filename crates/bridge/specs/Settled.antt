@@ -10,7 +10,7 @@ use Rattle.scope.specs.Sound.{Sound, treeIn}
 use Rattle.spelling.specs.Ready.{Sized}
 
 -- t₂ is t₁ with other words 1 and 2, and T is a tree that a table of c slots may spell
-pub record Settled (t₁ t₂ : List ℕ) (c : ℕ) (T : Tree) : Type 0 where
+pub record Resettled (t₁ t₂ : List ℕ) (c : ℕ) (T : Tree) : Type 0 where
   pub sized : Sized t₂ c
   pub slots : (k : ℕ) → 1 ≤ k → slotAt t₂ k ≡ slotAt t₁ k
   pub root : word t₂ rootWord ≡ word t₁ rootWord

@@ -44,7 +44,7 @@ pub fn vacate(t: &mut [u32], slot: usize, count: usize, change: u32) -> Answer
     requires { ⌜ InTable (now t) slot × (1 ≤ count) × (count ≤ 4095) × (change < lastChange) ⌝ }
     ensures { λ r. ⌜ Does (settled (withSlot (now (t .entry)) slot zeroSlot) (count - 1) change slot) r (now (t .exit)) ⌝ }
 {
-    words::put_slot(t, slot, Slot::blank());
+    words::put_slot(t, slot, Slot::zeros());
     gate::settle(t, count - 1, change, slot)
 }
 

@@ -14,7 +14,7 @@ use Rattle.scope.specs.declared.side.Link.{Link}
 use Rattle.scope.specs.declared.outcome.Leftmost.{Leftmost}
 use Rattle.scope.specs.declared.outcome.Leftmost.the-variants.{Is, Broken}
 use Rattle.spelling.proofs.Laws.{fit-left, fit-right}
-use Rattle.drop_plan.specs.Planned.{Reached}
+use Rattle.drop_plan.specs.Planned.{LeastReached}
 
 pub record Descending (t : List ℕ) (c : ℕ) (end : Leftmost) (more at : ℕ) (held : Link) : Type 0 where
   pub rest : leftmostFrom more t c at held ≡ end
@@ -42,12 +42,12 @@ module _ (t : List ℕ) (c at : ℕ) (held : Link) where
   on n m e f z = rw e (simp (f, ne-eqb (slotAt t at .left) 0 z))
 
 module _ {t : List ℕ} {c : ℕ} {end : Leftmost} {more at : ℕ} {held : Link} (d : Descending t c end more at held) where
-  pub down-spent : more ≡ 0 → Reached t c end Broken
+  pub down-spent : more ≡ 0 → LeastReached t c end Broken
   down-spent e = record { is = sym (spent t c at held more e) ∙ d .rest; inside = tt }
 
   -- slot `at` was read as s, and tested
   module _ (room : more ≡ 0 → ⊥) {s : Slot} {fit : Bool} (read : s ≡ slotAt t at) (tested : fit ≡ fitSlot c s) where
-    pub down-unfit : fit ≡ false → Reached t c end Broken
+    pub down-unfit : fit ≡ false → LeastReached t c end Broken
     down-unfit no-fit = record { is = sym (unfit t c at held more (more - 1) (omega arith) cc) ∙ d .rest; inside = tt }
 
     module _ (is-fit : fit ≡ true) {next : ℕ} (to : next ≡ s .left) where
@@ -57,7 +57,7 @@ module _ {t : List ℕ} {c : ℕ} {end : Leftmost} {more at : ℕ} {held : Link}
       left-there : next ≡ slotAt t at .left
       left-there = cc
 
-      pub down-here : next ≡ 0 → Reached t c end (Is at held)
+      pub down-here : next ≡ 0 → LeastReached t c end (Is at held)
       down-here z = record {
         is = sym (here t c at held more (more - 1) (omega arith) fit-there (sym left-there ∙ z)) ∙ d .rest;
         inside = (d .first, d .last, d .holder, fit-right c (slotAt t at) fit-there .0);

@@ -3,9 +3,8 @@ use Prim.Native.Nat.{ℕ, zero, suc, _+_}
 use mathlib.Core.Path.{_≡_, refl}
 use mathlib.Core.Bool.{true}
 use mathlib.Core.List.{List}
-use native.Mathlib.Omega.{arith}
 use lib.Dec.{eqb}
-use Rattle.scope.proofs.Bools.{by-bool}
+use Rattle.scope.proofs.Bools.{by-bool, never}
 use Rattle.scope.specs.Table.{slotAt}
 use Rattle.scope.specs.Fit.{fitSlot}
 use Rattle.scope.specs.Walk.{stepOf, onStep, walkFrom, walkOf}
@@ -22,7 +21,7 @@ here-fit : (c key : ℕ) (s : Slot) → stepOf c key s ≡ Here → fitSlot c s 
 unfolding stepOf
 here-fit c key s e =
     by-bool (fitSlot c s) (λ f. f)
-    (λ f. let z = simp f at e in let y : _≡_ {A = ℕ} 0 1 = cc in absurd (omega arith))
+    (λ f. let z = simp f at e in never cc)
 
 -- a step at slot k leads to a hit there, or to one further on
 on-step : (t : List ℕ) (c key k : ℕ) (now : Step) (link : Link) (seen : ℕ) (on : Side → ℕ → Walk)

@@ -24,7 +24,7 @@ HitFits t c (walk.Miss link seen) = Unit {0}
 HitFits t c walk.Damage = Unit {0}
 
 -- a fit slot of the table, found by its key at a link, after so many visits
-pub record Found (t : List ℕ) (c slot : ℕ) (link : Link) (visits : ℕ) : Type 0 where
+pub record FoundAt (t : List ℕ) (c slot : ℕ) (link : Link) (visits : ℕ) : Type 0 where
   pub ready : Ready t c
   pub first : 1 ≤ slot
   pub last : slot ≤ c
@@ -44,13 +44,13 @@ pub record Linkable (t : List ℕ) (link : Link) (son : ℕ) : Type 0 where
   pub below : son ≤ slots
 
 -- the leftmost slot of a subtree and what hangs on its right lie among c slots
-abbrev pub Inside : List ℕ → ℕ → Leftmost → Type 0
-Inside t c leftmost.Broken = Unit {0}
-Inside t c (leftmost.Is least link) = (1 ≤ least) × (least ≤ c) × (link .holder ≤ c) × (slotAt t least .right ≤ c)
+abbrev pub LeastInside : List ℕ → ℕ → Leftmost → Type 0
+LeastInside t c leftmost.Broken = Unit {0}
+LeastInside t c (leftmost.Is least link) = (1 ≤ least) × (least ≤ c) × (link .holder ≤ c) × (slotAt t least .right ≤ c)
 
-pub record Reached (t : List ℕ) (c : ℕ) (end r : Leftmost) : Type 0 where
+pub record LeastReached (t : List ℕ) (c : ℕ) (end r : Leftmost) : Type 0 where
   pub is : r ≡ end
-  pub inside : Inside t c r
+  pub inside : LeastInside t c r
 
 -- a record that can be lifted out, and one that another can replace
 pub record Lifting (t : List ℕ) (slot : ℕ) (link : Link) (son : ℕ) : Type 0 where
@@ -60,25 +60,25 @@ pub record Lifting (t : List ℕ) (slot : ℕ) (link : Link) (son : ℕ) : Type 
 
 pub record Replacing (t : List ℕ) (slot least : ℕ) (link : Link) : Type 0 where
   pub placed : AtSlot t slot
-  pub inside : Inside t (placed .slots) (leftmost.Is least link)
+  pub inside : LeastInside t (placed .slots) (leftmost.Is least link)
 
-abbrev pub Aimed : List ℕ → Dropping → Type 0
-Aimed t (Refuse why) = Unit {0}
-Aimed t (Lift slot link son) = Lifting t slot link son
-Aimed t (Replace slot least link) = Replacing t slot least link
+abbrev pub DropAimed : List ℕ → Dropping → Type 0
+DropAimed t (Refuse why) = Unit {0}
+DropAimed t (Lift slot link son) = Lifting t slot link son
+DropAimed t (Replace slot least link) = Replacing t slot least link
 
 -- a record is counted, and there is a change number left
-pub record May (t : List ℕ) : Type 0 where
+pub record MayDrop (t : List ℕ) : Type 0 where
   pub some : 1 ≤ word t countWord
   pub change : word t changeWord < lastChange
 
 pub record Liftable (t : List ℕ) (slot : ℕ) (link : Link) (son : ℕ) : Type 0 where
   pub aimed : Lifting t slot link son
-  pub may : May t
+  pub may : MayDrop t
 
 pub record Replaceable (t : List ℕ) (slot least : ℕ) (link : Link) : Type 0 where
   pub aimed : Replacing t slot least link
-  pub may : May t
+  pub may : MayDrop t
 
 abbrev pub CanDrop : List ℕ → Dropping → Type 0
 CanDrop t (Refuse why) = Unit {0}
@@ -86,6 +86,6 @@ CanDrop t (Lift slot link son) = Liftable t slot link son
 CanDrop t (Replace slot least link) = Replaceable t slot least link
 
 -- the plan of a drop is the defined one and can be carried out
-pub record Planned (t : List ℕ) (plan r : Dropping) : Type 0 where
+pub record DropPlanned (t : List ℕ) (plan r : Dropping) : Type 0 where
   pub is : r ≡ plan
   pub can : CanDrop t r

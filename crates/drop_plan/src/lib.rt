@@ -10,13 +10,13 @@ use scope::Walk;
 ghost use Prim.Native.Nat.{_≤_};
 ghost use Rattle.scope.specs.Drop.{leftmostFrom, ifMay, replacing, dropAt, droppingAt, dropPlan};
 ghost use Rattle.spelling.specs.Ready.{Headed, Ready};
-ghost use Rattle.walk.specs.Walked.{Inside};
-ghost use Rattle.drop_plan.specs.Planned.{HitFits, Found, rightLink, Reached, Aimed, Planned};
+ghost use Rattle.walk.specs.Walked.{WalkInside};
+ghost use Rattle.drop_plan.specs.Planned.{HitFits, FoundAt, rightLink, LeastReached, DropAimed, DropPlanned};
 
 // The leftmost slot below a slot that hangs at a link, where at most `most` slots are visited.
 pub fn leftmost(t: &[u32], c: usize, most: usize, slot: usize, link: Link) -> Leftmost
     requires { ⌜ Ready (now t) c × (1 ≤ slot) × (slot ≤ c) × (link .holder ≤ c) ⌝ }
-    ensures { λ r. ⌜ Reached (now (t .entry)) c (leftmostFrom most (now (t .entry)) c slot link) r ⌝ }
+    ensures { λ r. ⌜ LeastReached (now (t .entry)) c (leftmostFrom most (now (t .entry)) c slot link) r ⌝ }
 {
     let mut more = most;
     let mut at = slot;
@@ -48,8 +48,8 @@ pub fn leftmost(t: &[u32], c: usize, most: usize, slot: usize, link: Link) -> Le
 
 // A plan, if a record is counted and there is a change number left.
 pub fn if_may(t: &[u32], plan: Dropping) -> Dropping
-    requires { ⌜ Headed (now t) × Aimed (now t) plan ⌝ }
-    ensures { λ r. ⌜ Planned (now (t .entry)) (ifMay (now (t .entry)) plan) r ⌝ }
+    requires { ⌜ Headed (now t) × DropAimed (now t) plan ⌝ }
+    ensures { λ r. ⌜ DropPlanned (now (t .entry)) (ifMay (now (t .entry)) plan) r ⌝ }
 {
     if words::records(t) == 0 {
         return Dropping::Refuse(Refusal::Damaged);
@@ -64,7 +64,7 @@ pub fn if_may(t: &[u32], plan: Dropping) -> Dropping
 // With two sons the walk goes on to the leftmost on the right, where at most `most` slots are visited.
 pub fn replacing(t: &[u32], c: usize, most: usize, slot: usize, right: usize) -> Dropping
     requires { ⌜ Ready (now t) c × (1 ≤ slot) × (slot ≤ c) × (1 ≤ right) × (right ≤ c) ⌝ }
-    ensures { λ r. ⌜ Planned (now (t .entry)) (replacing (now (t .entry)) slot (leftmostFrom most (now (t .entry)) c right (rightLink slot))) r ⌝ }
+    ensures { λ r. ⌜ DropPlanned (now (t .entry)) (replacing (now (t .entry)) slot (leftmostFrom most (now (t .entry)) c right (rightLink slot))) r ⌝ }
 {
     let link = Link {
         holder: slot,
@@ -88,8 +88,8 @@ pub fn replacing(t: &[u32], c: usize, most: usize, slot: usize, right: usize) ->
 
 // What is to be done with the record of a fit slot, found after `seen` visits.
 pub fn drop_at(t: &[u32], c: usize, slot: usize, link: Link, seen: usize) -> Dropping
-    requires { ⌜ Found (now t) c slot link seen ⌝ }
-    ensures { λ r. ⌜ Planned (now (t .entry)) (dropAt (now (t .entry)) c slot link seen) r ⌝ }
+    requires { ⌜ FoundAt (now t) c slot link seen ⌝ }
+    ensures { λ r. ⌜ DropPlanned (now (t .entry)) (dropAt (now (t .entry)) c slot link seen) r ⌝ }
 {
     let s = words::slot_at(t, slot);
     let left = words::wide(s.left);
@@ -119,8 +119,8 @@ pub fn drop_at(t: &[u32], c: usize, slot: usize, link: Link, seen: usize) -> Dro
 
 // Test 5 comes before that.
 pub fn dropping_at(t: &[u32], c: usize, w: Walk) -> Dropping
-    requires { ⌜ Ready (now t) c × Inside c w × HitFits (now t) c w ⌝ }
-    ensures { λ r. ⌜ Planned (now (t .entry)) (droppingAt (now (t .entry)) c w) r ⌝ }
+    requires { ⌜ Ready (now t) c × WalkInside c w × HitFits (now t) c w ⌝ }
+    ensures { λ r. ⌜ DropPlanned (now (t .entry)) (droppingAt (now (t .entry)) c w) r ⌝ }
 {
     match w {
         Walk::Damage => Dropping::Refuse(Refusal::Damaged),
@@ -131,7 +131,7 @@ pub fn dropping_at(t: &[u32], c: usize, w: Walk) -> Dropping
 
 // The plan for a key.
 pub fn plan_drop(t: &[u32], key: u32) -> Dropping
-    ensures { λ r. ⌜ Planned (now (t .entry)) (dropPlan (now (t .entry)) key) r ⌝ }
+    ensures { λ r. ⌜ DropPlanned (now (t .entry)) (dropPlan (now (t .entry)) key) r ⌝ }
 {
     match gate::enter(t, key != 0) {
         Gate::Shut(why) => Dropping::Refuse(why),

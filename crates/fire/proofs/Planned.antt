@@ -7,7 +7,7 @@ use native.Mathlib.Omega.{arith}
 use borrow.Author.Tests.{ltb-false}
 use lib.ListN.{length}
 use lib.Dec.{eqb, ltb}
-use Rattle.scope.proofs.Bools.{by-bool}
+use Rattle.scope.proofs.Bools.{by-bool, never}
 use Rattle.scope.specs.Numbers.{ruleOf, sideOf, linkOf, knownLink}
 use Rattle.scope.specs.Table.{word, changeWord, slotsIn, written}
 use Rattle.scope.specs.Fit.{headerOk}
@@ -45,17 +45,17 @@ module _ (t : List ℕ) (c : ℕ) (r : Rule) (link : Link) where
 
 -- a link that is known has a holder of the table
 known-holder : (c holder n : ℕ) (s : SideIs) {l : Link} → holder ≤ c → knownLink holder n s ≡ link-is.Known l → l .holder ≤ c
-known-holder c holder n side-is.Unknown h e = let y : _≡_ {A = ℕ} 0 1 = cc in absurd (omega arith)
+known-holder c holder n side-is.Unknown h e = never cc
 known-holder c holder n (side-is.Known s) {l} h e =
     by-bool (eqb holder 0 && not (eqb n 0))
-    (λ p. let z = simp p at e in let y : _≡_ {A = ℕ} 0 1 = cc in absurd (omega arith))
+    (λ p. let z = simp p at e in never cc)
     (λ p. let z = simp p at e in let y : l .holder ≡ holder = cc in omega arith)
 
 pub link-holder : (c holder side : ℕ) {l : Link} → linkOf c holder side ≡ link-is.Known l → l .holder ≤ c
 unfolding linkOf
 link-holder c holder side e =
     by-bool (ltb c holder)
-    (λ p. let z = simp p at e in let y : _≡_ {A = ℕ} 0 1 = cc in absurd (omega arith))
+    (λ p. let z = simp p at e in never cc)
     (λ p. known-holder c holder side (sideOf side) (ltb-false c holder p) (simp p at e))
 
 -- what fire does, by what its tests found

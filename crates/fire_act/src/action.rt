@@ -13,12 +13,12 @@ ghost use Rattle.scope.specs.Edits.{writes};
 ghost use Rattle.scope.specs.Rules.{actionAt, propagated, rotated, rotatedTwice, rotatedLinks, rotatedHeights, twiceTop, twiceSons, twiceCopied, twiceHeights};
 ghost use Rattle.scope.specs.declared.rule.Kind.the-variants.{Propagate, Lean, Double};
 ghost use Rattle.fire_aim.specs.Aimed.{Within};
-ghost use Rattle.fire_act.specs.Wrote.{InNodes, Kept, Low};
+ghost use Rattle.fire_act.specs.Wrote.{InNodes, Kept, HeightsLow};
 ghost use Rattle.spelling.specs.Ready.{Sized};
 
 // v's near register takes u's local height.
 pub fn propagate(t: &mut [u32], c: usize, n: Nodes, near: Side)
-    requires { ⌜ InNodes (now t) c n × Low Propagate near n ⌝ }
+    requires { ⌜ InNodes (now t) c n × HeightsLow Propagate near n ⌝ }
     ensures { λ _. ⌜ Kept c (written (now (t .entry)) (writes (propagated near n))) (now (t .exit)) ⌝ }
 {
     put_height(
@@ -44,7 +44,7 @@ pub fn rotate_links(t: &mut [u32], c: usize, n: Nodes, near: Side)
 
 // v takes u's far register as its near one, and u v's new local height as its far one.
 pub fn rotate_heights(t: &mut [u32], c: usize, n: Nodes, near: Side)
-    requires { ⌜ InNodes (now t) c n × Low Lean near n ⌝ }
+    requires { ⌜ InNodes (now t) c n × HeightsLow Lean near n ⌝ }
     ensures { λ _. ⌜ Kept c (written (now (t .entry)) (writes (rotatedHeights near n))) (now (t .exit)) ⌝ }
 {
     let far = near.other();
@@ -55,7 +55,7 @@ pub fn rotate_heights(t: &mut [u32], c: usize, n: Nodes, near: Side)
 }
 
 pub fn rotate(t: &mut [u32], c: usize, n: Nodes, near: Side)
-    requires { ⌜ InNodes (now t) c n × Low Lean near n ⌝ }
+    requires { ⌜ InNodes (now t) c n × HeightsLow Lean near n ⌝ }
     ensures { λ _. ⌜ Kept c (written (now (t .entry)) (writes (rotated near n))) (now (t .exit)) ⌝ }
 {
     rotate_links(t, c, n, near);
@@ -95,7 +95,7 @@ pub fn twice_copied(t: &mut [u32], c: usize, n: Nodes, near: Side)
 
 // w's registers take the new local heights of u and v.
 pub fn twice_heights(t: &mut [u32], c: usize, n: Nodes, near: Side)
-    requires { ⌜ InNodes (now t) c n × Low Double near n ⌝ }
+    requires { ⌜ InNodes (now t) c n × HeightsLow Double near n ⌝ }
     ensures { λ _. ⌜ Kept c (written (now (t .entry)) (writes (twiceHeights near n))) (now (t .exit)) ⌝ }
 {
     let v = fire_guards::seen(n.sv, near);
@@ -106,7 +106,7 @@ pub fn twice_heights(t: &mut [u32], c: usize, n: Nodes, near: Side)
 }
 
 pub fn rotate_twice(t: &mut [u32], c: usize, n: Nodes, near: Side)
-    requires { ⌜ InNodes (now t) c n × Low Double near n ⌝ }
+    requires { ⌜ InNodes (now t) c n × HeightsLow Double near n ⌝ }
     ensures { λ _. ⌜ Kept c (written (now (t .entry)) (writes (rotatedTwice near n))) (now (t .exit)) ⌝ }
 {
     twice_top(t, c, n, near);

@@ -20,16 +20,16 @@ use Rattle.scope.specs.declared.outcome.Firing.{Firing}
 use Rattle.scope.specs.declared.outcome.Firing.the-variants.{Refuse}
 use Rattle.spelling.specs.Ready.{Ready}
 use Rattle.spelling.proofs.Laws.{fit-son, link-son}
-use Rattle.fire_aim.specs.Aimed.{Reached, Nearby, Inside, Aimed}
+use Rattle.fire_aim.specs.Aimed.{LinkReached, Nearby, NodesInside, Aimed}
 use Rattle.fire_aim.proofs.Taking.{took}
 use Rattle.fire_aim.proofs.Judging.{may-judged}
 
 -- a judged firing may be carried out where its nodes lie in the table
-judged-at : (c : ℕ) (r : Rule) (n : Nodes) {plan f : Firing} → Inside c n → judged r n ≡ plan → f ≡ judged r n → Aimed c plan f
+judged-at : (c : ℕ) (r : Rule) (n : Nodes) {plan f : Firing} → NodesInside c n → judged r n ≡ plan → f ≡ judged r n → Aimed c plan f
 judged-at c r n i p q = record { is = q ∙ p; may = rw q (may-judged c r n i) }
 
 inside : {t : List ℕ} {c : ℕ} {link : Link} {v u w : ℕ} {sv su sw : Slot} → Nearby t c link v → 1 ≤ u → u ≤ c → 1 ≤ w → w ≤ c
-    → Inside c (record { link = link; v = v; u = u; w = w; sv = sv; su = su; sw = sw })
+    → NodesInside c (record { link = link; v = v; u = u; w = w; sv = sv; su = su; sw = sw })
 inside n a b d e = record {
   holder = n .holder;
   v-first = n .first;
@@ -75,7 +75,7 @@ module _ {t : List ℕ} {c : ℕ} {link : Link} {v : ℕ} (n : Nearby t c link v
         judged-at c r _ (inside n k b k b) (simp (at, p, h)) j
 
 -- v, in slot `v`
-module _ {t : List ℕ} {c : ℕ} {link : Link} (o : Reached t c link) (r : Rule) (v : ℕ) (at : v ≡ word t (linkAt link)) where
+module _ {t : List ℕ} {c : ℕ} {link : Link} (o : LinkReached t c link) (r : Rule) (v : ℕ) (at : v ≡ word t (linkAt link)) where
   pub aim-v-not : {why : Refusal} → takeOf t c v (link .holder) 0 0 ≡ Not why → Aimed c (aimV t c r link) (Refuse why)
   unfolding aimV
   aim-v-not q = let p = rw at at q in record { is = simp p; may = tt }
@@ -94,7 +94,7 @@ module _ {t : List ℕ} {c : ℕ} {link : Link} (o : Reached t c link) (r : Rule
 
 -- the holder, which is none at the root's link
 module _ {t : List ℕ} {c : ℕ} (g : Ready t c) (r : Rule) (link : Link) (le : link .holder ≤ c) where
-  pub reached-root : link .holder ≡ 0 → Reached t c link
+  pub reached-root : link .holder ≡ 0 → LinkReached t c link
   unfolding linkAt
   reached-root z = record { sized = g .sized; holder = le; holds = simp (eq-eqb _ _ z) (g .root) }
 
@@ -109,7 +109,7 @@ module _ {t : List ℕ} {c : ℕ} (g : Ready t c) (r : Rule) (link : Link) (le :
     aim-free z = let p = rw read at z in record { is = simp (ne-eqb _ _ ne, eq-eqb _ _ p); may = tt }
 
     module _ (live : s .state ≡ 0 → ⊥) where
-      pub reached-slot : fitSlot c s ≡ true → Reached t c link
+      pub reached-slot : fitSlot c s ≡ true → LinkReached t c link
       reached-slot f =
           let p = rw read at f in
           record { sized = g .sized; holder = le; holds = rw (link-son t link (omega arith)) (fit-son c (slotAt t (link .holder)) (link .side) p) }

@@ -7,9 +7,9 @@ use Rattle.scope.specs.Rules.{guardAt, highestAt}
 use Rattle.scope.specs.Fire.{judged}
 use Rattle.scope.specs.declared.rule.Rule.{Rule}
 use Rattle.scope.specs.declared.outcome.Nodes.{Nodes}
-use Rattle.fire_aim.specs.Aimed.{Inside, May}
+use Rattle.fire_aim.specs.Aimed.{NodesInside, MayFire}
 
-pub may-judged : (c : ℕ) (r : Rule) (n : Nodes) → Inside c n → May c (judged r n)
+pub may-judged : (c : ℕ) (r : Rule) (n : Nodes) → NodesInside c n → MayFire c (judged r n)
 unfolding judged
 may-judged c r n i =
     by-bool (guardAt r n)

@@ -6,7 +6,7 @@ use mathlib.Core.List.{List}
 use native.Mathlib.Omega.{arith}
 use borrow.Author.Tests.{eqb-false}
 use lib.Dec.{eqb}
-use Rattle.scope.proofs.Bools.{and-l, by-bool}
+use Rattle.scope.proofs.Bools.{and-l, by-bool, never}
 use Rattle.scope.specs.Table.{slotAt}
 use Rattle.scope.specs.Fit.{fitSlot}
 use Rattle.scope.specs.Fire.{takeOf}
@@ -23,10 +23,10 @@ pub took : (t : List ℕ) (c k a b e : ℕ) {s : Slot} → takeOf t c k a b e �
 unfolding takeOf
 took t c k a b e {s} q =
     by-bool (eqb k 0)
-    (λ z. let p = simp z at q in let y : _≡_ {A = ℕ} 0 1 = cc in absurd (omega arith))
+    (λ z. let p = simp z at q in never cc)
     (λ z. by-bool (fitSlot c (slotAt t k) && not (eqb k a) && not (eqb k b) && not (eqb k e))
     (λ f. let p = simp (z, f) at q in
     let g = and-l _ _ (and-l _ _ (and-l _ _ f)) in
     let i : s ≡ slotAt t k = cc in
     record { first = omega (arith, eqb-false k 0 z); is = i; fit = rw i g })
-    (λ f. let p = simp (z, f) at q in let y : _≡_ {A = ℕ} 0 1 = cc in absurd (omega arith)))
+    (λ f. let p = simp (z, f) at q in never cc))

@@ -12,7 +12,7 @@ use Rattle.scope.specs.declared.outcome.Firing.the-variants.{Refuse, Fire}
 use Rattle.spelling.specs.Ready.{Sized}
 
 -- a link of a table of c slots that holds a slot of it, or nothing
-pub record Reached (t : List ℕ) (c : ℕ) (link : Link) : Type 0 where
+pub record LinkReached (t : List ℕ) (c : ℕ) (link : Link) : Type 0 where
   pub sized : Sized t c
   pub holder : link .holder ≤ c
   pub holds : word t (linkAt link) ≤ c
@@ -25,7 +25,7 @@ pub record Nearby (t : List ℕ) (c : ℕ) (link : Link) (v : ℕ) : Type 0 wher
   pub most : v ≤ c
 
 -- the nodes of a firing are slots of a table of c
-pub record Inside (c : ℕ) (n : Nodes) : Type 0 where
+pub record NodesInside (c : ℕ) (n : Nodes) : Type 0 where
   pub holder : n .link .holder ≤ c
   pub v-first : 1 ≤ n .v
   pub v-most : n .v ≤ c
@@ -36,14 +36,14 @@ pub record Inside (c : ℕ) (n : Nodes) : Type 0 where
 
 -- and the heights that the action works out are heights
 pub record Within (c : ℕ) (r : Rule) (n : Nodes) : Type 0 where
-  pub nodes : Inside c n
+  pub nodes : NodesInside c n
   pub height : highestAt r n ≤ 65535
 
-abbrev pub May : ℕ → Firing → Type 0
-May c (Refuse why) = Unit {0}
-May c (Fire r n) = Within c r n
+abbrev pub MayFire : ℕ → Firing → Type 0
+MayFire c (Refuse why) = Unit {0}
+MayFire c (Fire r n) = Within c r n
 
 -- a firing as defined, that may be carried out in a table of c slots
 pub record Aimed (c : ℕ) (plan f : Firing) : Type 0 where
   pub is : f ≡ plan
-  pub may : May c f
+  pub may : MayFire c f

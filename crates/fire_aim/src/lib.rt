@@ -18,7 +18,7 @@ ghost use Rattle.scope.specs.Numbers.{other};
 ghost use Rattle.scope.specs.Rules.{guardAt, highestAt};
 ghost use Rattle.scope.specs.Fire.{takeOf, judged, hasThird, aimW, aimU, aimV, aim};
 ghost use Rattle.spelling.specs.Ready.{Sized, Ready};
-ghost use Rattle.fire_aim.specs.Aimed.{Aimed, Nearby, Reached};
+ghost use Rattle.fire_aim.specs.Aimed.{Aimed, Nearby, LinkReached};
 
 // A slot that a firing names: it has to be there, fit, and none of the slots a, b and e before it.
 pub fn take(t: &[u32], c: usize, k: usize, a: usize, b: usize, e: usize) -> Taken
@@ -157,7 +157,7 @@ pub fn aim_u(t: &[u32], c: usize, r: Rule, link: Link, v: usize, sv: Slot) -> Fi
 }
 
 pub fn aim_v(t: &[u32], c: usize, r: Rule, link: Link) -> Firing
-    requires { ⌜ Reached (now t) c link ⌝ }
+    requires { ⌜ LinkReached (now t) c link ⌝ }
     ensures { λ f. ⌜ Aimed c (aimV (now (t .entry)) c r link) f ⌝ }
 {
     let v = words::link_at(t, link);

@@ -10,8 +10,8 @@ use borrow.Author.Tests.{leb-true, le-leb, eqb-true, eq-eqb, ne-eqb}
 use Rattle.scope.specs.Numbers.{mostHeight}
 use Rattle.scope.specs.Fit.{stateOk, piecesOk, linkOk, tailOk, fitSlot}
 use Rattle.scope.specs.declared.slot.Slot.{Slot}
-use Rattle.scope.proofs.Bools.{and-l, and-r, both}
-use Rattle.gate.specs.Parts.{burdenOf, besideOk, registersOk, recordOk, linksOk}
+use Rattle.scope.proofs.Bools.{and-l, and-r, both, never}
+use Rattle.gate.specs.Parts.{burdenOf, besideOk, registersOk, contentsOk, linksOk}
 
 -- two tests that pass alike
 same : (a b : Bool) → (a ≡ true → b ≡ true) → (b ≡ true → a ≡ true) → a ≡ b
@@ -30,7 +30,7 @@ ends-together s l =
         ne-eqb (s + 4 * l) 2 (λ e. ne (omega arith)),
         ne-eqb l 0 ne,
       )
-          (same _ _ (λ h. absurd (let z : _≡_ {A = ℕ} 0 1 = cc in omega arith)) (λ h. and-r (eqb s 1 || eqb s 2) false h))
+          (same _ _ (λ h. absurd (never cc)) (λ h. and-r (eqb s 1 || eqb s 2) false h))
     ]
 
 pub burden-le : (link : ℕ) → burdenOf link ≤ mostHeight
@@ -103,7 +103,7 @@ regroup e z k p l r h i j m =
     (both (and-l l h lh) (and-l r j rj)))
 
 -- the whole test in the order of the code
-pub fit-together : (c : ℕ) (s : Slot) → (recordOk s && linksOk c s) ≡ fitSlot c s
+pub fit-together : (c : ℕ) (s : Slot) → (contentsOk s && linksOk c s) ≡ fitSlot c s
 unfolding fitSlot linkOk
 fit-together c s =
     regroup (stateOk (s .state)) (tailOk (s .last)) (not (eqb (s .key) 0)) (piecesOk (s .pieces)) (leb (s .left) c)

@@ -12,9 +12,9 @@ abbrev pub Does : Done → Answer → List ℕ → Type 0
 Does d answer words = (answer ≡ d .answer) × (words ≡ d .words)
 
 -- one change more than before, and the answer names a slot
-abbrev pub numbered : List ℕ → ℕ → ℕ → Done
-numbered t before slot = record { answer = accepted (before + 1) slot 0 0; words = set t changeWord (before + 1) }
+abbrev pub nextNumbered : List ℕ → ℕ → ℕ → Done
+nextNumbered t before slot = record { answer = accepted (before + 1) slot 0 0; words = set t changeWord (before + 1) }
 
 -- so many records, and one change more
 abbrev pub settled : List ℕ → ℕ → ℕ → ℕ → Done
-settled t count before slot = numbered (set t countWord count) before slot
+settled t count before slot = nextNumbered (set t countWord count) before slot

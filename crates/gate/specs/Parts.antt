@@ -22,8 +22,8 @@ abbrev pub endsOk : Slot → Bool
 endsOk s = stateOk (s .state) && tailOk (s .last)
 
 -- what a slot tells by itself
-abbrev pub recordOk : Slot → Bool
-recordOk s = registersOk s && (piecesOk (s .pieces) && (endsOk s && not (eqb (s .key) 0)))
+abbrev pub contentsOk : Slot → Bool
+contentsOk s = registersOk s && (piecesOk (s .pieces) && (endsOk s && not (eqb (s .key) 0)))
 
 -- both links lead into a table of c slots, or nowhere
 abbrev pub linksOk : ℕ → Slot → Bool

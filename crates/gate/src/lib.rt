@@ -13,7 +13,6 @@ pub use ending::settle;
 pub use tests::blank;
 pub use tests::fit;
 pub use tests::header_ok;
-pub use tests::links_ok;
 pub use tests::pieces_ok;
 pub use tests::record_ok;
 pub use tests::state_ok;

@@ -6,8 +6,9 @@ use words::records;
 use words::root;
 use words::zero;
 ghost use mathlib.Core.Path.{_≡_};
+ghost use Rattle.scope.specs.Post.{recordOk};
 ghost use Rattle.scope.specs.Fit.{stateOk, piecesOk, fitSlot, blankSlot, headerOk};
-ghost use Rattle.gate.specs.Parts.{burdenOf, registersOk, endsOk, recordOk, linksOk};
+ghost use Rattle.gate.specs.Parts.{burdenOf, registersOk, endsOk, contentsOk, linksOk};
 ghost use Rattle.spelling.specs.Ready.{Headed};
 
 pub fn state_ok(s: u32) -> bool
@@ -20,6 +21,13 @@ pub fn pieces_ok(p: u32) -> bool
     ensures { λ r. ⌜ r ≡ piecesOk p ⌝ }
 {
     (p != 0) & (p <= Slot::MOST_PIECES)
+}
+
+// Key, pieces and state are in range.
+pub fn record_ok(key: u32, pieces: u32, state: u32) -> bool
+    ensures { λ r. ⌜ r ≡ recordOk key pieces state ⌝ }
+{
+    (key != 0) & pieces_ok(pieces) & state_ok(state)
 }
 
 // What is added to a register before it is held to the limit: beside an empty link any height is then too high.
@@ -47,8 +55,8 @@ pub fn ends_ok(s: Slot) -> bool
 }
 
 // What a slot tells by itself: its registers, pieces, ends and key.
-pub fn record_ok(s: Slot) -> bool
-    ensures { λ r. ⌜ r ≡ recordOk s ⌝ }
+pub fn contents_ok(s: Slot) -> bool
+    ensures { λ r. ⌜ r ≡ contentsOk s ⌝ }
 {
     registers_ok(s) && (pieces_ok(s.pieces) && (ends_ok(s) && s.key != 0))
 }
@@ -63,7 +71,7 @@ pub fn links_ok(c: usize, s: Slot) -> bool
 pub fn fit(c: usize, s: Slot) -> bool
     ensures { λ r. ⌜ r ≡ fitSlot c s ⌝ }
 {
-    record_ok(s) && links_ok(c, s)
+    contents_ok(s) && links_ok(c, s)
 }
 
 // Eight zeros.

@@ -6,7 +6,7 @@ use mathlib.Core.Option.{Option, none, some}
 use mathlib.Core.List.{List, [], _∷_, _++_, append-assoc}
 use native.Mathlib.Omega.{arith}
 use lib.Dec.{eqb, ltb}
-use Rattle.scope.proofs.Bools.{by-bool}
+use Rattle.scope.proofs.Bools.{by-bool, never}
 use Rattle.ledger.specs.Entries.{Entry, lookup, insert, replace, remove, sumTo}
 use Rattle.ledger.specs.Sorted.{EachStamp}
 
@@ -32,7 +32,7 @@ pub not-here : {X : Type 0} (key : ℕ) (x : Entry) (xs : List Entry) → lookup
 unfolding lookup
 not-here key x xs e k =
     by-bool (eqb key (x .key))
-    (λ p. let q = simp p at e in let z : _≡_ {A = ℕ} 0 1 = cc in absurd (omega arith))
+    (λ p. let q = simp p at e in never cc)
     (λ p. k p (simp p at e))
 
 -- an operation that puts `mid` where the first record with a stamp is

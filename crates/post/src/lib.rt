@@ -9,21 +9,14 @@ use scope::State;
 use scope::Walk;
 ghost use mathlib.Core.Path.{_≡_};
 ghost use Prim.Native.Nat.{_≤_};
-ghost use Rattle.scope.specs.Post.{recordOk, hangAt, postingAt, postPlan, leafSlot, posted};
+ghost use Rattle.scope.specs.Post.{hangAt, postingAt, postPlan, leafSlot, posted};
 ghost use Rattle.scope.specs.Calls.{Post, Promise};
 ghost use Rattle.scope.specs.declared.outcome.Posting.the-variants.{Hang};
 ghost use Rattle.spelling.specs.Ready.{Ready};
-ghost use Rattle.walk.specs.Walked.{Inside};
+ghost use Rattle.walk.specs.Walked.{WalkInside};
 ghost use Rattle.gate.specs.Ends.{Does};
 ghost use Rattle.post.specs.Planned.{Hangable};
 ghost use Rattle.post.specs.Planned.{PostPlanned};
-
-// Key, pieces and state are in range.
-pub fn record_ok(key: u32, pieces: u32, state: u32) -> bool
-    ensures { λ r. ⌜ r ≡ recordOk key pieces state ⌝ }
-{
-    (key != 0) & gate::pieces_ok(pieces) & gate::state_ok(state)
-}
 
 // Whether the lowest free slot k can be filled: test 6, and what follows it.
 pub fn hang_at(t: &[u32], c: usize, link: Link, k: usize) -> Posting
@@ -46,7 +39,7 @@ pub fn hang_at(t: &[u32], c: usize, link: Link, k: usize) -> Posting
 
 // Test 4 comes before them.
 pub fn posting_at(t: &[u32], c: usize, w: Walk) -> Posting
-    requires { ⌜ Ready (now t) c × Inside c w ⌝ }
+    requires { ⌜ Ready (now t) c × WalkInside c w ⌝ }
     ensures { λ r. ⌜ PostPlanned (now (t .entry)) (postingAt (now (t .entry)) c w) r ⌝ }
 {
     match w {
@@ -60,7 +53,7 @@ pub fn posting_at(t: &[u32], c: usize, w: Walk) -> Posting
 pub fn plan_post(t: &[u32], key: u32, pieces: u32, state: u32) -> Posting
     ensures { λ r. ⌜ PostPlanned (now (t .entry)) (postPlan (now (t .entry)) key pieces state) r ⌝ }
 {
-    match gate::enter(t, record_ok(key, pieces, state)) {
+    match gate::enter(t, gate::record_ok(key, pieces, state)) {
         Gate::Shut(why) => Posting::Refuse(why),
         Gate::Open(c) => posting_at(t, c, walk::search(t, c, key)),
     }
@@ -70,7 +63,7 @@ pub fn plan_post(t: &[u32], key: u32, pieces: u32, state: u32) -> Posting
 pub fn leaf(key: u32, pieces: u32, state: u32) -> Slot
     ensures { λ r. ⌜ r ≡ leafSlot key pieces state ⌝ }
 {
-    Slot::blank().with_record(state, key, pieces)
+    Slot::zeros().with_record(state, key, pieces)
 }
 
 // The leaf in slot k, and k in its link.

@@ -7,15 +7,16 @@ use native.Mathlib.Omega.{arith}
 use lib.ListN.{length, getD, length-append, List·getD-append}
 use lib.Seq.{getD-append-add, getD-append-seam}
 use borrow.Author.Tests.{le-leb, lt-leb}
+use Rattle.scope.proofs.Bools.{never}
 use Rattle.scope.specs.Tree.{Batch, Tree, leaf, node, size, inOrder}
 use Rattle.scope.specs.Sums.{slotsInOrder, pick}
 use Rattle.scope.specs.declared.outcome.Rank.{Rank}
 use Rattle.scope.specs.declared.outcome.Rank.the-variants.{At, Past}
 
 -- a rank on the right side, where `seen` slots stand before that side
-abbrev pub after : ℕ → Rank → Rank
-after seen (At k) = At k
-after seen (Past n) = Past (seen + n)
+abbrev pub afterRank : ℕ → Rank → Rank
+afterRank seen (At k) = At k
+afterRank seen (Past n) = Past (seen + n)
 
 -- a node's slots in order are those on its left, its own, and those on its right
 pub order-node : (d : Batch) (a b : ℕ) (l r : Tree)
@@ -43,13 +44,13 @@ at-is : (r : ℕ) (l : List ℕ) (k : ℕ) → pick r l ≡ At k → (r ≤ leng
 at-is r l k e =
     elim (decLe r (length l)) [
       | yes h ↦ (h, cc (pick-at r l h))
-      | no h ↦ let p = pick-past r l (omega arith) in let z : _≡_ {A = ℕ} 0 1 = cc in absurd (omega arith)
+      | no h ↦ let p = pick-past r l (omega arith) in never cc
     ]
 
 pub past-is : (r : ℕ) (l : List ℕ) (n : ℕ) → pick r l ≡ Past n → (n ≡ length l) × (n < r)
 past-is r l n e =
     elim (decLe r (length l)) [
-      | yes h ↦ let p = pick-at r l h in let z : _≡_ {A = ℕ} 0 1 = cc in absurd (omega arith)
+      | yes h ↦ let p = pick-at r l h in never cc
       | no h ↦ let i : n ≡ length l = cc (pick-past r l (omega arith)) in (i, omega arith)
     ]
 
@@ -72,7 +73,7 @@ module _ (r : ℕ) (l : List ℕ) (x : ℕ) (rs : List ℕ) (pos : 1 ≤ r) wher
         pick-at r (l ++ (x ∷ rs)) (omega (arith, all-length))
         ∙ ap At (ap (λ (q : ℕ). getD (l ++ (x ∷ rs)) q 0) j ∙ getD-append-seam l x rs 0)
 
-    pub pick-after : (n + 1 ≡ r → ⊥) → pick r (l ++ (x ∷ rs)) ≡ after (n + 1) (pick (r - (n + 1)) rs)
+    pub pick-after : (n + 1 ≡ r → ⊥) → pick r (l ++ (x ∷ rs)) ≡ afterRank (n + 1) (pick (r - (n + 1)) rs)
     pick-after ne =
         let p = past-is r l n e in
         let i : ℕ = r - (n + 1) in
@@ -81,8 +82,8 @@ module _ (r : ℕ) (l : List ℕ) (x : ℕ) (rs : List ℕ) (pos : 1 ≤ r) wher
               let j : r - 1 ≡ length l + suc (i - 1) = omega arith in
               pick-at r (l ++ (x ∷ rs)) (omega (arith, all-length))
               ∙ ap At (ap (λ (q : ℕ). getD (l ++ (x ∷ rs)) q 0) j ∙ getD-append-add l (x ∷ rs) (suc (i - 1)) 0)
-              ∙ sym (ap (after (n + 1)) (pick-at i rs h))
+              ∙ sym (ap (afterRank (n + 1)) (pick-at i rs h))
           | no h ↦
               pick-past r (l ++ (x ∷ rs)) (omega (arith, all-length)) ∙ ap Past (omega (arith, all-length))
-              ∙ sym (ap (after (n + 1)) (pick-past i rs (omega arith)))
+              ∙ sym (ap (afterRank (n + 1)) (pick-past i rs (omega arith)))
         ]

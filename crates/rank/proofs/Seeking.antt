@@ -16,18 +16,18 @@ use Rattle.scope.specs.declared.outcome.Rank.{Rank}
 use Rattle.scope.specs.declared.outcome.Rank.the-variants.{At, Past}
 use Rattle.fork.specs.declared.Fork.{Fork}
 use Rattle.fork.specs.Hangs.{Hangs, Says}
-use Rattle.rank.specs.Ranks.{firstRank, rankIn, Seeks}
+use Rattle.rank.specs.Ranks.{firstRank, rankSaid, Seeks}
 use Rattle.fork.proofs.Down.{Forked, said-at, at-leaf, says-leaf, says-fork}
-use Rattle.rank.proofs.Pick.{after, order-node, order-size, pick-past, past-is}
+use Rattle.rank.proofs.Pick.{afterRank, order-node, order-size, pick-past, past-is}
 use Rattle.rank.proofs.Pick.{pick-left, pick-here, pick-after}
 
 -- what a number below the first rank says, and one from there on
-pub at-in : (w : ℕ) {n : ℕ} → n < firstRank → rankIn w n ≡ At n
-unfolding rankIn
+pub at-in : (w : ℕ) {n : ℕ} → n < firstRank → rankSaid w n ≡ At n
+unfolding rankSaid
 at-in w {n} h = rw (lt-ltb n firstRank h) refl
 
-pub past-in : (w : ℕ) {n : ℕ} → firstRank ≤ n → rankIn w n ≡ Past (w - n)
-unfolding rankIn
+pub past-in : (w : ℕ) {n : ℕ} → firstRank ≤ n → rankSaid w n ≡ Past (w - n)
+unfolding rankSaid
 past-in w {n} h = rw (le-ltb n firstRank h) refl
 
 -- no slot hangs at the empty link
@@ -78,8 +78,8 @@ module _ {t : List ℕ} {more x : ℕ} {f : Fork} (d : Forked t more x f) {r : �
         unfolding rankOf
         on-right = said-at (d .on-right) (rankOf (r - (n + 1))) sb
 
-        pub rank-after : (n + 1 ≡ r → ⊥) → {q : Rank} → q ≡ after (n + 1) b → Says t x (rankOf r) q
-        rank-after ne eq = rank-node (pick-after r L x R pos n (sym on-left ∙ e) ne ∙ ap (after (n + 1)) (sym on-right) ∙ sym eq)
+        pub rank-after : (n + 1 ≡ r → ⊥) → {q : Rank} → q ≡ afterRank (n + 1) b → Says t x (rankOf r) q
+        rank-after ne eq = rank-node (pick-after r L x R pos n (sym on-left ∙ e) ne ∙ ap (afterRank (n + 1)) (sym on-right) ∙ sym eq)
 
 -- the walk's numbers at a slot
 module _ {t : List ℕ} {more x w n : ℕ} {f : Fork} (h : Hangs t more x) (d : Forked t more x f) (pos : firstRank ≤ w)
@@ -106,13 +106,13 @@ module _ {t : List ℕ} {more x w n : ℕ} {f : Fork} (h : Hangs t more x) (d : 
         says = rank-after d (omega arith) (s .says) (past-in w ge) right (λ i. ne (omega (arith, s .most))) joined;
       }
     where
-      joined : rankIn w q ≡ after (w - n + 1) (rankIn (n - 1) q)
+      joined : rankSaid w q ≡ afterRank (w - n + 1) (rankSaid (n - 1) q)
       joined =
           elim (decLe firstRank q) [
             | yes k ↦
                 past-in w k ∙ ap Past (omega (arith, s .most, z .most))
-                ∙ ap (after (w - n + 1)) (sym (past-in (n - 1) k))
-            | no k ↦ at-in w (omega arith) ∙ ap (after (w - n + 1)) (sym (at-in (n - 1) (omega arith)))
+                ∙ ap (afterRank (w - n + 1)) (sym (past-in (n - 1) k))
+            | no k ↦ at-in w (omega arith) ∙ ap (afterRank (w - n + 1)) (sym (at-in (n - 1) (omega arith)))
           ]
 
 -- the whole table

@@ -14,10 +14,10 @@ abbrev pub firstRank : ℕ
 firstRank = mostSlots + 1
 
 -- what such a number says: a slot, or how many come before the rank that is still wanted
-unfoldable pub rankIn : ℕ → ℕ → Rank
-rankIn wanted n = cond (ltb n firstRank) (At n) (Past (wanted - n))
+unfoldable pub rankSaid : ℕ → ℕ → Rank
+rankSaid wanted n = cond (ltb n firstRank) (At n) (Past (wanted - n))
 
 -- n is what a walk from link x says
 pub record Seeks (t : List ℕ) (x wanted n : ℕ) : Type 0 where
   pub most : n ≤ wanted
-  pub says : Says t x (rankOf (wanted - mostSlots)) (rankIn wanted n)
+  pub says : Says t x (rankOf (wanted - mostSlots)) (rankSaid wanted n)

@@ -13,7 +13,7 @@ ghost use Rattle.scope.specs.Calls as calls;
 ghost use Rattle.spelling.specs.Ready.{Headed};
 ghost use Rattle.spelling.specs.Whole.{Whole};
 ghost use Rattle.fork.specs.Hangs.{Hangs};
-ghost use Rattle.rank.specs.Ranks.{firstRank, rankIn, Seeks};
+ghost use Rattle.rank.specs.Ranks.{firstRank, rankSaid, Seeks};
 
 // Rank 1 as a number, and rank r is r - 1 more: so a rank that is wanted is above every slot.
 pub const FIRST: usize = Slots::MOST + 1;
@@ -50,7 +50,7 @@ pub fn rank_under(t: &[u32], more: usize, x: usize, wanted: usize) -> usize
 // What such a number says.
 pub fn rank_said(wanted: usize, n: usize) -> Rank
     requires { ⌜ n ≤ wanted ⌝ }
-    ensures { λ a. ⌜ a ≡ rankIn wanted n ⌝ }
+    ensures { λ a. ⌜ a ≡ rankSaid wanted n ⌝ }
 {
     if n < FIRST {
         Rank::At(n)

@@ -4,6 +4,10 @@ use mathlib.Core.Path.{_≡_, refl, sym}
 use mathlib.Core.Bool.{Bool, true, false, not, _&&_, _||_}
 use native.Mathlib.Omega.{arith}
 
+-- two tests that cannot both have come out so: 0 would be 1
+pub never {ℓ} : {X : Type ℓ} → _≡_ {A = ℕ} 0 1 → X
+never z = absurd (omega arith)
+
 -- both parts of a conjunction that holds
 pub and-l : (a b : Bool) → (a && b) ≡ true → a ≡ true
 and-l true b e = refl
@@ -11,7 +15,7 @@ and-l false b e = e
 
 pub and-r : (a b : Bool) → (a && b) ≡ true → b ≡ true
 and-r true b e = e
-and-r false b e = let z : _≡_ {A = ℕ} 0 1 = cc in absurd (omega arith)
+and-r false b e = never cc
 
 -- a conjunction of two that hold, and one whose second part fails
 pub both : {a b : Bool} → a ≡ true → b ≡ true → (a && b) ≡ true
@@ -28,7 +32,7 @@ by-bool false f g = g refl
 
 -- not both
 pub neither {ℓ} : {X : Type ℓ} {b : Bool} → b ≡ true → b ≡ false → X
-neither p q = let z : _≡_ {A = ℕ} 0 1 = cc in absurd (omega arith)
+neither p q = never cc
 
 -- both parts of a disjunction that fails, and one whose second part holds
 pub or-l : (a b : Bool) → (a || b) ≡ false → a ≡ false

@@ -22,24 +22,24 @@ use Rattle.scope.specs.Calls.{answers, after}
 use Rattle.scope.proofs.Script.{Row, rows}
 use Rattle.scope.proofs.Marked.{marked, worked}
 use Rattle.scope.proofs.Further.{further}
-use Rattle.scope.proofs.Refusals.{refusals}
+use Rattle.scope.proofs.Refusals.{refusalRows}
 use Rattle.scope.proofs.Damage.{damage}
 use Rattle.scope.proofs.Bites.{bites}
 
 -- what the definitions give in each row is what the row states
-abbrev pub Holds : List Row → Type 0
-Holds rs = map (λ r. r .given) rs ≡ map (λ r. r .stated) rs
+abbrev pub RowsHold : List Row → Type 0
+RowsHold rs = map (λ r. r .given) rs ≡ map (λ r. r .stated) rs
 
 pub record Computed : Type 0 where
   -- M1 to M8
-  pub marked-holds : Holds marked
+  pub marked-holds : RowsHold marked
   -- the worked case
-  pub worked-holds : Holds worked
-  pub further-holds : Holds further
-  pub refusals-hold : Holds refusals
-  pub damage-holds : Holds damage
+  pub worked-holds : RowsHold worked
+  pub further-holds : RowsHold further
+  pub refusals-hold : RowsHold refusalRows
+  pub damage-holds : RowsHold damage
   -- what rules idle calls out
-  pub bites-hold : Holds bites
+  pub bites-hold : RowsHold bites
 
 pub computed : Computed
 unfolding ruleOf sideOf linkOf slotsOf slotsIn slotAt withSlot linkAt written writes stateOk piecesOk linkOk tailOk
@@ -55,7 +55,7 @@ computed =
       marked-holds = rows marked refl;
       worked-holds = rows worked refl;
       further-holds = rows further refl;
-      refusals-hold = rows refusals refl;
+      refusals-hold = rows refusalRows refl;
       damage-holds = rows damage refl;
       bites-hold = rows bites refl;
     }

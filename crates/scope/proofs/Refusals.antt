@@ -17,8 +17,8 @@ full = after (poured (40 ∷ 20 ∷ [])) (fresh 2)
 abbrev last : List ℕ
 last = set (after (poured (40 ∷ 20 ∷ [])) (fresh 3)) changeWord 4294967295
 
-abbrev pub refusals : List Row
-refusals =
+abbrev pub refusalRows : List Row
+refusalRows =
     -- a refusal is its code and four zeros
     row (fives (Find 7 ∷ []) full) (5 ∷ 0 ∷ 0 ∷ 0 ∷ 0 ∷ [])
     -- 1: lengths that are not 4 + 8c with c from 1 on

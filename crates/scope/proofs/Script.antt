@@ -3,11 +3,10 @@ use Prim.Native.Nat.{ℕ}
 use mathlib.Core.Path.{_≡_, refl}
 use mathlib.Core.Bool.{Bool, true, false, _&&_}
 use mathlib.Core.List.{List, [], _∷_, map}
-use native.Mathlib.Omega.{arith}
 use lib.ListN.{replicate, take, drop}
 use lib.Dec.{eqb}
 use borrow.Author.Tests.{eqb-true}
-use Rattle.scope.proofs.Bools.{and-l, and-r}
+use Rattle.scope.proofs.Bools.{and-l, and-r, never}
 use Rattle.scope.specs.Calls.{Call, Post, answers}
 use Rattle.scope.specs.Table.{headWords, slotWords, tableWords, base}
 use Rattle.scope.specs.declared.answer.Answer.{Answer}
@@ -37,7 +36,7 @@ values xs t = map (λ a. a .value) (answers xs t)
 
 -- the words of a header; of a slot, whose last word is 0; and of a blank slot
 abbrev pub headOf : ℕ → ℕ → ℕ → ℕ → List ℕ
-headOf root count change zero = root ∷ count ∷ change ∷ zero ∷ []
+headOf root count change last = root ∷ count ∷ change ∷ last ∷ []
 
 abbrev pub wordsOf : ℕ → ℕ → ℕ → ℕ → ℕ → ℕ → ℕ → List ℕ
 wordsOf state key pieces left right lefth righth = state ∷ key ∷ pieces ∷ left ∷ right ∷ lefth ∷ righth ∷ 0 ∷ []
@@ -73,8 +72,8 @@ agree (r ∷ rs) = sameList (r .given) (r .stated) && agree rs
 
 same-list : (xs ys : List ℕ) → sameList xs ys ≡ true → xs ≡ ys
 same-list [] [] e = refl
-same-list [] (y ∷ ys) e = let z : _≡_ {A = ℕ} 0 1 = cc in absurd (omega arith)
-same-list (x ∷ xs) [] e = let z : _≡_ {A = ℕ} 0 1 = cc in absurd (omega arith)
+same-list [] (y ∷ ys) e = never cc
+same-list (x ∷ xs) [] e = never cc
 same-list (x ∷ xs) (y ∷ ys) e =
     let p = eqb-true x y (and-l _ _ e) in let q = same-list xs ys (and-r (eqb x y) _ e) in cc
 

@@ -52,7 +52,7 @@ impl Slot {
     pub const MOST_PIECES: u32 = 1000000;
 
     // A slot of zeros.
-    pub fn blank() -> Slot
+    pub fn zeros() -> Slot
         ensures { λ r. ⌜ r ≡ zeroSlot ⌝ }
     {
         Slot {

@@ -4,7 +4,7 @@ use mathlib.Core.Path.{_≡_}
 use mathlib.Core.List.{List}
 use native.Mathlib.Omega.{arith}
 use Rattle.scope.specs.declared.outcome.Scan.{Scan}
-use Rattle.sound.specs.Scan.{Scanning, Welcome, Inside, Good, Scanned, scanOf, spoiled}
+use Rattle.sound.specs.Scan.{Scanning, Welcome, EnteredSlot, Good, Scanned, scanOf, spoiled}
 use Rattle.sound.proofs.Steps.{at-end, no-room, refused, left-in, right-in, left-refused, right-part}
 use Rattle.sound.proofs.Steps.{is-spoiled, was-spoiled, is-left, was-left}
 
@@ -32,7 +32,7 @@ module _ {t m₀ : List ℕ} {c more x low high : ℕ} where
         v .whole m' (scanOf spoiled) (is-spoiled t m m' c few at from high (refused t m c at from high few (v .there) place d))
 
     -- the slot was entered
-    module _ {m₁ : List ℕ} {l r k : ℕ} (o : Inside t m m₁ c at from high l r k) where
+    module _ {m₁ : List ℕ} {l r k : ℕ} (o : EnteredSlot t m m₁ c at from high l r k) where
       pub along-left : Scanning t m₁ c (few - 1) l
       along-left = record {
         looking = record { sized = v .scanning .looking .sized; link = left-in o; marks = o .mark .room };

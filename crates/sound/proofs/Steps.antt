@@ -18,18 +18,18 @@ use Rattle.scope.specs.declared.outcome.Scan.the-variants.{Damaged, Left}
 use Rattle.spelling.proofs.Laws.{fit-left, fit-right}
 use Rattle.marks.specs.Marks.{bitAt, Marked}
 use Rattle.marks.proofs.Laws.{bit-small, unmarked, adds}
-use Rattle.sound.specs.Scan.{Looking, inPlace, Welcome, Inside, Fine, Good, Scanned, scanOf, spoiled}
+use Rattle.sound.specs.Scan.{Looking, inPlace, Welcome, EnteredSlot, Fine, Good, Scanned, scanOf, spoiled}
 use Rattle.tree.specs.Between.{Between}
 use Rattle.spelling.proofs.Spell.{topped, unique}
 use Rattle.spelling.proofs.Frame.{same-self}
 
 -- what a slot in its place tells
-pub record Placed (c : ℕ) (s : Slot) (low high : ℕ) : Type 0 where
+pub record PlacedBetween (c : ℕ) (s : Slot) (low high : ℕ) : Type 0 where
   pub fit : fitSlot c s ≡ true
   pub over : low < s .key
   pub under : s .key < high
 
-pub placed : (c : ℕ) (s : Slot) (low high : ℕ) → inPlace c s low high ≡ true → Placed c s low high
+pub placed : (c : ℕ) (s : Slot) (low high : ℕ) → inPlace c s low high ≡ true → PlacedBetween c s low high
 unfolding inPlace
 placed c s low high e =
     let p = and-l (fitSlot c s && ltb low (s .key)) _ e in
@@ -39,7 +39,7 @@ placed c s low high e =
       under = ltb-true _ _ (and-r (fitSlot c s && ltb low (s .key)) _ e);
     }
 
-in-place : (c : ℕ) (s : Slot) (low high : ℕ) → Placed c s low high → inPlace c s low high ≡ true
+in-place : (c : ℕ) (s : Slot) (low high : ℕ) → PlacedBetween c s low high → inPlace c s low high ≡ true
 unfolding inPlace
 in-place c s low high p = both (both (p .fit) (lt-ltb _ _ (p .over))) (lt-ltb _ _ (p .under))
 
@@ -53,7 +53,7 @@ module _ {t m : List ℕ} {c x low high : ℕ} {a : Bool} (ea : a ≡ eqb (bitAt
     misplaced p w = neither (w .place) (ap (λ (v : Slot). inPlace c v low high) (sym es) ∙ sym eb ∙ p)
 
     pub entered : {m' : List ℕ} {l r k : ℕ} → a ≡ false → b ≡ true → Marked m x m'
-        → l ≡ s .left → r ≡ s .right → k ≡ s .key → Inside t m m' c x low high l r k
+        → l ≡ s .left → r ≡ s .right → k ≡ s .key → EnteredSlot t m m' c x low high l r k
     entered p q mark l r k = record {
       welcome = record {
         free = unmarked m x (sym ea ∙ p);
@@ -66,8 +66,8 @@ module _ {t m : List ℕ} {c x low high : ℕ} {a : Bool} (ea : a ≡ eqb (bitAt
     }
 
 -- a slot that was entered is in its place, and its links lead into the table
-module _ {t m m' : List ℕ} {c x low high l r k : ℕ} (o : Inside t m m' c x low high l r k) where
-  here : Placed c (slotAt t x) low high
+module _ {t m m' : List ℕ} {c x low high l r k : ℕ} (o : EnteredSlot t m m' c x low high l r k) where
+  here : PlacedBetween c (slotAt t x) low high
   here = placed c (slotAt t x) low high (o .welcome .place)
 
   pub left-in : l ≤ c
@@ -78,7 +78,7 @@ module _ {t m m' : List ℕ} {c x low high l r k : ℕ} (o : Inside t m m' c x l
 
 -- what a tree at slot x says of the slot and of its two sides
 pub record Parts (t m : List ℕ) (c x low high : ℕ) (l r : Tree) : Type 0 where
-  pub place : Placed c (slotAt t x) low high
+  pub place : PlacedBetween c (slotAt t x) low high
   pub left : Spells t c (slotAt t x .left) l
   pub right : Spells t c (slotAt t x .right) r
   pub keys-left : Between low (slotAt t x .key) l
@@ -152,7 +152,7 @@ module _ (t m : List ℕ) (c x low high : ℕ) where
     pub refused : (Welcome t m c x low high → ⊥) → (T : Tree) → Fine t m c x low high T → size T ≤ more → ⊥
     refused none′ T f s = let (L, R, q, e) = apart T p f in none′ (welcome L R h q)
 
-    module _ (m₁ : List ℕ) (l r k : ℕ) (o : Inside t m m₁ c x low high l r k) where
+    module _ (m₁ : List ℕ) (l r k : ℕ) (o : EnteredSlot t m m₁ c x low high l r k) where
       -- the left side, as the scan of it finds it
       left-fine : (L R : Tree) → Parts t m c x low high L R → Fine t m₁ c l low k L
       left-fine L R q = record {

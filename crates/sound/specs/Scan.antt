@@ -40,16 +40,16 @@ pub record Welcome (t m : List ℕ) (c x low high : ℕ) : Type 0 where
   pub place : inPlace c (slotAt t x) low high ≡ true
 
 -- it was entered, and has these links and this key
-pub record Inside (t m m' : List ℕ) (c x low high l r k : ℕ) : Type 0 where
+pub record EnteredSlot (t m m' : List ℕ) (c x low high l r k : ℕ) : Type 0 where
   pub welcome : Welcome t m c x low high
   pub mark : Marked m x m'
   pub left : l ≡ slotAt t x .left
   pub right : r ≡ slotAt t x .right
   pub key : k ≡ slotAt t x .key
 
-abbrev pub Visited : List ℕ → List ℕ → List ℕ → ℕ → ℕ → ℕ → ℕ → Visit → Type 0
-Visited t m m' c x low high Refused = Welcome t m c x low high → ⊥
-Visited t m m' c x low high (Entered l r k) = Inside t m m' c x low high l r k
+abbrev pub VisitSays : List ℕ → List ℕ → List ℕ → ℕ → ℕ → ℕ → ℕ → Visit → Type 0
+VisitSays t m m' c x low high Refused = Welcome t m c x low high → ⊥
+VisitSays t m m' c x low high (Entered l r k) = EnteredSlot t m m' c x low high l r k
 
 -- the tree hangs at link x, its keys in order, each of its slots reached once and not marked before
 pub record Fine (t m : List ℕ) (c x low high : ℕ) (T : Tree) : Type 0 where

@@ -13,7 +13,7 @@ ghost use Rattle.scope.specs.Sound.{soundTable};
 ghost use Rattle.scope.specs.Sums.{soundGate};
 ghost use Rattle.scope.specs.Calls.{Check, Promise};
 ghost use Rattle.spelling.specs.Ready.{Sized};
-ghost use Rattle.sound.specs.Scan.{inPlace, settledAt, Looking, Scanning, Visited, Scanned, scanOf, RestIs};
+ghost use Rattle.sound.specs.Scan.{inPlace, settledAt, Looking, Scanning, VisitSays, Scanned, scanOf, RestIs};
 
 // One more than the largest key.
 pub const PAST_KEYS: u64 = 4294967296;
@@ -29,7 +29,7 @@ pub fn in_place(c: usize, s: Slot, low: u64, high: u64) -> bool
 // Tests slot x and marks it: it must not have been reached before.
 pub fn visit(t: &[u32], m: &mut [u64; 64], c: usize, x: usize, low: u64, high: u64) -> Visit
     requires { ⌜ (1 ≤ x) × Looking (now t) (now m) c x ⌝ }
-    ensures { λ r. ⌜ Visited (now (t .entry)) (now (m .entry)) (now (m .exit)) c x low high r ⌝ }
+    ensures { λ r. ⌜ VisitSays (now (t .entry)) (now (m .entry)) (now (m .exit)) c x low high r ⌝ }
 {
     if marks::marked(m, x) {
         return Visit::Refused;

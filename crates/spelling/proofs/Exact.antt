@@ -17,12 +17,12 @@ use Rattle.tree.proofs.Keys.Bounds.{ordered-says, ordered-test}
 use Rattle.spelling.proofs.Spell.{tree-spells, root-tree}
 
 -- a slot is reached at most once, and blank where it is not reached
-pub record Settled (t : List ℕ) (T : Tree) (k : ℕ) : Type 0 where
+pub record SlotSettled (t : List ℕ) (T : Tree) (k : ℕ) : Type 0 where
   pub once : times k T ≤ 1
   pub rest : times k T ≡ 0 → blankSlot (slotAt t k) ≡ true
 
 module _ (t : List ℕ) (T : Tree) where
-  slot-says : (k : ℕ) → slotOk t T k ≡ true → Settled t T k
+  slot-says : (k : ℕ) → slotOk t T k ≡ true → SlotSettled t T k
   unfolding slotOk
   slot-says k e =
       by-bool (eqb (times k T) 1)
@@ -31,7 +31,7 @@ module _ (t : List ℕ) (T : Tree) where
       let i = eqb-true (times k T) 0 (and-l _ _ q) in
       record { once = omega arith; rest = λ z. and-r (eqb (times k T) 0) _ q })
 
-  slot-test : (k : ℕ) → Settled t T k → slotOk t T k ≡ true
+  slot-test : (k : ℕ) → SlotSettled t T k → slotOk t T k ≡ true
   unfolding slotOk
   slot-test k s =
       by-bool (eqb (times k T) 1)
@@ -68,7 +68,7 @@ module _ (t : List ℕ) (c : ℕ) where
   from-tree h none p q = neither q refl
   from-tree h (some T) p q =
       let test = and-l (eqb (size T) (word t countWord) && ordered T) (slotsOk t T c) q in
-      let slots : (k : ℕ) → 1 ≤ k → k ≤ c → Settled t T k =
+      let slots : (k : ℕ) → 1 ≤ k → k ≤ c → SlotSettled t T k =
       λ k i j. slot-says t T k (slots-say t T c (and-r (eqb (size T) (word t countWord) && ordered T) _ q) k i j) in
       record {
         header = h;

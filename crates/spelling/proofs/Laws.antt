@@ -7,7 +7,7 @@ use native.Mathlib.Omega.{arith}
 use borrow.Author.Tests.{leb-true, eqb-true, eqb-false, ne-eqb}
 use lib.ListN.{length}
 use lib.Dec.{eqb, leb}
-use Rattle.scope.proofs.Bools.{and-l, and-r, by-bool}
+use Rattle.scope.proofs.Bools.{and-l, and-r, by-bool, never}
 use Rattle.scope.specs.Numbers.{slotsOf}
 use Rattle.scope.specs.Table.{headWords, slotWords, word, rootWord, countWord, slotsIn, base, slotAt, son, linkAt, linkPlace, registerAt, registerPlace, InTable}
 use Rattle.scope.specs.Fit.{stateOk, piecesOk, linkOk, tailOk, fitSlot, headerOk}
@@ -30,9 +30,9 @@ slots-in-range n s e =
     (λ p. let z = simp p at e in
     let k : s .count ≡ n = cc in
     by-bool (eqb n 0)
-    (λ q. let w = simp q at p in let y : _≡_ {A = ℕ} 0 1 = cc in absurd (omega arith))
+    (λ q. let w = simp q at p in never cc)
     (λ q. (k, omega (arith, eqb-false n 0 q), leb-true n 4095 (and-r (not (eqb n 0)) _ p))))
-    (λ p. let z = simp p at e in let y : _≡_ {A = ℕ} 0 1 = cc in absurd (omega arith))
+    (λ p. let z = simp p at e in never cc)
 
 -- the slots of a length fill it
 pub slots-room : (t : List ℕ) (s : Slots) → slotsIn (length t) ≡ Within s → Sized t (s .count)
@@ -42,7 +42,7 @@ slots-room t s e =
     (λ p. let z = simp p at e in
     let k = slots-in-range (length t / slotWords) s z in
     record { room = omega (arith, eqb-true (length t % slotWords) headWords p); some = omega arith; most = omega arith })
-    (λ p. let z = simp p at e in let y : _≡_ {A = ℕ} 0 1 = cc in absurd (omega arith))
+    (λ p. let z = simp p at e in never cc)
 
 -- what a good header tells
 pub header-root : (c : ℕ) (t : List ℕ) → headerOk c t ≡ true → word t rootWord ≤ c
@@ -61,13 +61,13 @@ pub record Passed (t : List ℕ) (good : Bool) (whole : ℕ → Bool) (c : ℕ) 
 
 admitted : (good whole : Bool) (n c : ℕ) → admit good whole n ≡ Open c → (n ≡ c) × (good ≡ true) × (whole ≡ true)
 admitted true true n c e = (cc, refl, refl)
-admitted true false n c e = let y : _≡_ {A = ℕ} 0 1 = cc in absurd (omega arith)
-admitted false whole n c e = let y : _≡_ {A = ℕ} 0 1 = cc in absurd (omega arith)
+admitted true false n c e = never cc
+admitted false whole n c e = never cc
 
 -- the same for a slot count that has been read
 gate-at : (t : List ℕ) (good : Bool) (whole : ℕ → Bool) (c : ℕ) (s : SlotsIs) → slotsIn (length t) ≡ s
     → onSlots s (λ n. admit good (whole n) n) ≡ Open c → Passed t good whole c
-gate-at t good whole c Outside q e = let y : _≡_ {A = ℕ} 0 1 = cc in absurd (omega arith)
+gate-at t good whole c Outside q e = never cc
 gate-at t good whole c (Within s) q e =
     let p = admitted good (whole (s .count)) (s .count) c e in
     record { sized = rw (← p .0) (slots-room t s q); good-is = p .1; whole-is = rw (← p .0) (p .2) }

@@ -5,7 +5,7 @@ use mathlib.Core.Bool.{Bool, true, false, cond}
 use mathlib.Core.List.{List}
 use native.Mathlib.Omega.{arith}
 use lib.ListN.{length}
-use Rattle.scope.proofs.Bools.{by-bool}
+use Rattle.scope.proofs.Bools.{by-bool, never}
 use Rattle.scope.specs.Table.{slotsIn}
 use Rattle.scope.specs.Fit.{headerOk}
 use Rattle.scope.specs.Answers.{gate, onSlots, admit}
@@ -30,8 +30,8 @@ opened t good c e o =
     record { sized = p .sized; sound = sound-says t c (p .whole-is) }
 
 -- and the arguments were in range
-pub asked : (t : List ℕ) (good : Bool) (c : ℕ) {g : Gate} → g ≡ soundGate t good → g ≡ Open c → good ≡ true
-asked t good c e o = gate-passed t good (λ n. soundTable t n) c (sym e ∙ o) .good-is
+pub was-asked : (t : List ℕ) (good : Bool) (c : ℕ) {g : Gate} → g ≡ soundGate t good → g ≡ Open c → good ≡ true
+was-asked t good c e o = gate-passed t good (λ n. soundTable t n) c (sym e ∙ o) .good-is
 
 -- where the header's gate is shut so is this one, and where it is open soundness decides
 module _ (t : List ℕ) where
@@ -41,7 +41,7 @@ module _ (t : List ℕ) where
   shut-at false why (Within s) e = e
   shut-at true why (Within s) e =
       by-bool (headerOk (s .count) t)
-      (λ h. let q = simp h at e in let z : _≡_ {A = ℕ} 0 1 = cc in absurd (omega arith))
+      (λ h. let q = simp h at e in never cc)
       (λ h. let q = simp h at e in simp (by-header t (s .count) h) q)
 
   pub shut-too : {g : Gate} (good : Bool) (why : Refusal) → g ≡ gate t good (λ n. headerOk n t) → g ≡ Shut why
@@ -51,12 +51,12 @@ module _ (t : List ℕ) where
 
   open-at : (good : Bool) (c : ℕ) (s : SlotsIs) → onSlots s (λ n. admit good (headerOk n t) n) ≡ Open c
       → onSlots s (λ n. admit good (soundTable t n) n) ≡ cond (soundTable t c) (Open c) (Shut Damaged)
-  open-at good c Outside e = let z : _≡_ {A = ℕ} 0 1 = cc in absurd (omega arith)
-  open-at false c (Within s) e = let z : _≡_ {A = ℕ} 0 1 = cc in absurd (omega arith)
+  open-at good c Outside e = never cc
+  open-at false c (Within s) e = never cc
   open-at true c (Within s) e =
       by-bool (headerOk (s .count) t)
       (λ h. let q = simp h at e in let i : s .count ≡ c = cc in rw i refl)
-      (λ h. let q = simp h at e in let z : _≡_ {A = ℕ} 0 1 = cc in absurd (omega arith))
+      (λ h. let q = simp h at e in never cc)
 
   pub open-too : {g : Gate} (good : Bool) (c : ℕ) → g ≡ gate t good (λ n. headerOk n t) → g ≡ Open c
       → cond (soundTable t c) (Open c) (Shut Damaged) ≡ soundGate t good

@@ -7,7 +7,7 @@ use mathlib.Core.List.{List}
 use native.Mathlib.Omega.{arith}
 use lib.Dec.{eqb}
 use borrow.Author.Tests.{ne-eqb, eqb-true, eqb-false}
-use Rattle.scope.proofs.Bools.{by-bool}
+use Rattle.scope.proofs.Bools.{by-bool, never}
 use Rattle.scope.specs.Table.{word, rootWord, slotAt}
 use Rattle.scope.specs.Fit.{fitSlot}
 use Rattle.scope.specs.Tree.{Tree, leaf, node, size}
@@ -53,7 +53,7 @@ module _ (t : List ℕ) (c : ℕ) where
       rw (ne-eqb x 0 (λ e. omega (arith, p .there)), p .fit, el, er) (cc (p .holds, p .lefth, p .righth))
 
   nothing : {X : Type 0} {T : Tree} → _≡_ {A = Option Tree} none (some T) → X
-  nothing e = let z : _≡_ {A = ℕ} 0 1 = cc in absurd (omega arith)
+  nothing e = never cc
 
   leaf-spells : (x : ℕ) (T : Tree) → x ≡ 0 → _≡_ {A = Option Tree} (some leaf) (some T) → Spells t c x T
   unfolding Spells

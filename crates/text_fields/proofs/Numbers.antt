@@ -9,6 +9,7 @@ use lib.ListN.{length, drop, getD, length-drop}
 use lib.Seq.{getD-drop}
 use lib.Dec.{leb}
 use borrow.Author.Tests.{le-leb, lt-leb, le-ltb, lt-ltb, eq-eqb, ne-eqb, leb-true, leb-false}
+use Rattle.scope.proofs.Bools.{never}
 use Rattle.text_fields.specs.Number.{largest, isDigit, digitsOf, valueFrom, digitsRead, digitsAt, numberOf, numberAt}
 use Rattle.text_fields.specs.declared.number.DigitsRead.the-variants.{Digits, TooLarge}
 use Rattle.text_fields.specs.declared.number.NumberRead.the-variants.{Number, NoNumber}
@@ -45,7 +46,7 @@ digits-known s at v i e = go (leb (valueFrom 0 (digitsOf (drop at s))) largest) 
           place = p;
           inside = omega (arith, digits-length (drop at s), length-drop at s);
         }
-    go false t q = let z : _≡_ {A = ℕ} 0 1 = cc in absurd (omega arith)
+    go false t q = never cc
 
 pub digits-too : (s : List ℕ) (at : ℕ) → TooLarge ≡ digitsAt s at → largest < valueFrom 0 (digitsOf (drop at s))
 unfolding digitsRead
@@ -54,7 +55,7 @@ digits-too s at e = go (leb (valueFrom 0 (digitsOf (drop at s))) largest) refl e
     go : (b : Bool) → leb (valueFrom 0 (digitsOf (drop at s))) largest ≡ b
         → TooLarge ≡ cond b (Digits (valueFrom 0 (digitsOf (drop at s))) (at + length (digitsOf (drop at s)))) TooLarge
         → largest < valueFrom 0 (digitsOf (drop at s))
-    go true t q = let z : _≡_ {A = ℕ} 0 1 = cc in absurd (omega arith)
+    go true t q = never cc
     go false t q = leb-false _ _ t
 
 -- the first of the digits is the byte that stands there

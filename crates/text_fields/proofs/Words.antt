@@ -9,7 +9,7 @@ use lib.ListN.{length, drop, getD, drop-of-length-le}
 use lib.Seq.{drop-cons}
 use lib.Dec.{eqb}
 use borrow.Author.Tests.{eq-eqb, ne-eqb}
-use Rattle.scope.proofs.Bools.{and-r}
+use Rattle.scope.proofs.Bools.{and-r, never}
 use Rattle.text_fields.specs.Text.{startsWith}
 
 pub starts-step : (w s : List ℕ) (i j : ℕ) → i < length w → j < length s
@@ -51,5 +51,5 @@ matching-done {s} {at} {w} {i} {j} m h = sym (m .same ∙ starts-all w s i j h)
 pub starts-fits : (w s : List ℕ) → startsWith w s ≡ true → length w ≤ length s
 unfolding startsWith
 starts-fits [] s e = omega arith
-starts-fits (c ∷ w) [] e = let z : _≡_ {A = ℕ} 0 1 = cc in absurd (omega arith)
+starts-fits (c ∷ w) [] e = never cc
 starts-fits (c ∷ w) (d ∷ s) e = omega (arith, starts-fits w s (and-r (eqb d c) (startsWith w s) e))

@@ -7,6 +7,7 @@ use native.Mathlib.Omega.{arith}
 use lib.ListN.{length, getD}
 use lib.Dec.{leb}
 use borrow.Author.Tests.{leb-true, le-leb}
+use Rattle.scope.proofs.Bools.{never}
 use Rattle.scope.specs.Table.{word, rootWord, countWord, slotAt, InTable}
 use Rattle.scope.specs.Tree.{Batch, Tree, leaf, node, size, inOrder}
 use Rattle.scope.specs.Sound.{Spells, treeIn}
@@ -77,4 +78,4 @@ module _ {t : List ℕ} {c : ℕ} (w : Whole t c) where
           let z : k ≡ getD l (r - 1) 0 = cc in
           let x = within-at c l (r - 1) slots-within (omega (arith, leb-true r (length l) q)) in
           in-table k (w .sized) (omega (arith, z)) (omega (arith, z))
-      go false q e = let z : _≡_ {A = ℕ} 0 1 = cc in absurd (omega arith)
+      go false q e = never cc

@@ -14,7 +14,7 @@ use Rattle.text_fields.specs.Number.{largest, isDigit, digitsOf}
 use Rattle.text_fields.specs.Read.{wordThen, numberThen, fieldThen, fieldsThen}
 use Rattle.text_fields.specs.declared.read.Read.the-variants.{Numbers}
 use Rattle.text_readings.proofs.Back.{number-back}
-use Rattle.text_readings.proofs.Told.{Told, none, more, after, spaced, allSpaced, drop-on}
+use Rattle.text_readings.proofs.Told.{NumbersTold, none, more, afterNumbers, spaced, allSpaced, drop-on}
 
 pub starts-word : (w rest : List ℕ) → startsWith w (w ++ rest) ≡ true
 unfolding startsWith
@@ -35,7 +35,7 @@ field-back s at w n rest a b c e h d =
     rw (word-back s at w (decimal n ++ rest) a b c f, number-back s (at + length w) n rest (drop-on s at w f) h d, q)
 
 -- no digit stands where printed fields begin
-fields-head : {ws : List (List ℕ)} {ns : List ℕ} (rest : List ℕ) → allSpaced ws ≡ true → Told ws ns → digitsOf rest ≡ []
+fields-head : {ws : List (List ℕ)} {ns : List ℕ} (rest : List ℕ) → allSpaced ws ≡ true → NumbersTold ws ns → digitsOf rest ≡ []
     → digitsOf (fields ws ns ++ rest) ≡ []
 unfolding fields spaced allSpaced digitsOf
 fields-head rest p none d = d
@@ -50,9 +50,9 @@ fields-head rest p (more {w} {ws} {n} {ns} h t) d = go w (and-l (spaced w) (allS
     go (c ∷ w) e = first (isDigit c) _ e
 
 pub fields-back : {ws : List (List ℕ)} {ns : List ℕ} (s : List ℕ) (at : ℕ) (rest : List ℕ) (a b c : ℕ)
-    → allSpaced ws ≡ true → Told ws ns → drop at s ≡ fields ws ns ++ rest → digitsOf rest ≡ []
-    → fieldsThen s ws (Numbers a b c at) ≡ after a b c ns (at + length (fields ws ns))
-unfolding fieldsThen fields after allSpaced
+    → allSpaced ws ≡ true → NumbersTold ws ns → drop at s ≡ fields ws ns ++ rest → digitsOf rest ≡ []
+    → fieldsThen s ws (Numbers a b c at) ≡ afterNumbers a b c ns (at + length (fields ws ns))
+unfolding fieldsThen fields afterNumbers allSpaced
 fields-back s at rest a b c p none e d = rw add-zero
 fields-back s at rest a b c p (more {w} {ws} {n} {ns} h t) e d =
     let ps = and-r (spaced w) (allSpaced ws) p in
@@ -61,4 +61,4 @@ fields-back s at rest a b c p (more {w} {ws} {n} {ns} h t) e d =
     omega (arith, length-append (field w n) (fields ws ns)) in
     ap (fieldsThen s ws) (field-back s at w n (fields ws ns ++ rest) a b c f h (fields-head rest ps t d))
     ∙ fields-back s (at + length (field w n)) rest b c n ps t (drop-on s at (field w n) f) d
-    ∙ ap (after b c n ns) q
+    ∙ ap (afterNumbers b c n ns) q

@@ -17,7 +17,7 @@ use Rattle.text_fields.specs.declared.number.NumberRead.the-variants.{Number, N
 use Rattle.text_fields.specs.declared.read.Read.{Read}
 use Rattle.text_fields.specs.declared.read.Read.the-variants.{Numbers, Other}
 use Rattle.text_readings.proofs.Only.{number-only}
-use Rattle.text_readings.proofs.Told.{Told, none, more, after, other-stays}
+use Rattle.text_readings.proofs.Told.{NumbersTold, none, more, afterNumbers, other-stays}
 
 -- a line that begins with a word is the word and the rest
 pub starts-split : (w s : List ℕ) → startsWith w s ≡ true → s ≡ w ++ drop (length w) s
@@ -78,8 +78,8 @@ field-only s w a b c p = word (startsWith w (drop p s)) refl
 -- so do fields one after the other
 pub record FieldsAre (s : List ℕ) (ws : List (List ℕ)) (a b c p : ℕ) (r : Read) (q : ℕ) : Type 0 where
   pub ns : List ℕ
-  pub told : Told ws ns
-  pub is : r ≡ after a b c ns q
+  pub told : NumbersTold ws ns
+  pub is : r ≡ afterNumbers a b c ns q
   pub text : drop p s ≡ fields ws ns ++ drop q s
 
 unfoldable pub FieldsRead : List ℕ → List (List ℕ) → ℕ → ℕ → ℕ → ℕ → Read → Type 0
@@ -87,7 +87,7 @@ FieldsRead s ws a b c p Other = Unit {0}
 FieldsRead s ws a b c p (Numbers a′ b′ c′ q) = FieldsAre s ws a b c p (Numbers a′ b′ c′ q) q
 
 pub fields-only : (s : List ℕ) (ws : List (List ℕ)) (a b c p : ℕ) → FieldsRead s ws a b c p (fieldsThen s ws (Numbers a b c p))
-unfolding fieldsThen fields after FieldRead FieldsRead
+unfolding fieldsThen fields afterNumbers FieldRead FieldsRead
 fields-only s [] a b c p = record { ns = []; told = none; is = refl; text = refl }
 fields-only s (w ∷ ws) a b c p = go (fieldThen s w (Numbers a b c p)) (field-only s w a b c p) (λ x y z q. fields-only s ws x y z q)
   where

@@ -8,7 +8,7 @@ use native.Mathlib.Nat.{zero-add}
 use lib.ListN.{length, drop}
 use lib.Dec.{ltb, leb, eqb}
 use borrow.Author.Tests.{leb-true, ltb-true, lt-ltb, eqb-false}
-use Rattle.scope.proofs.Bools.{and-l, and-r, not-true}
+use Rattle.scope.proofs.Bools.{and-l, and-r, not-true, never}
 use Rattle.text_fields.specs.Number.{largest, isDigit, digitsOf, valueFrom, leadingZero, numberOf, numberAt}
 use Rattle.text_fields.specs.Decimal.{decimal}
 use Rattle.text_fields.specs.declared.number.NumberRead.the-variants.{Number, NoNumber}
@@ -97,7 +97,7 @@ number-only s at v i e = go (digitsOf (drop at s)) (text-only (drop at s)) e
         pick : (b : Bool) → (ltb 0 (length t) && not (leadingZero t) && leb (valueFrom 0 t) largest) ≡ b
             → Number v i ≡ cond b (Number (valueFrom 0 t) (at + length t)) NoNumber
             → (v ≤ largest) × (t ≡ decimal v) × (i ≡ at + length (decimal v))
-        pick false q e = let z : _≡_ {A = ℕ} 0 1 = cc in absurd (omega arith)
+        pick false q e = never cc
         pick true q e =
             let d = both (ltb 0 (length t) && not (leadingZero t)) (leb (valueFrom 0 t) largest) q in
             let f = both (ltb 0 (length t)) (not (leadingZero t)) (d .0) in

@@ -9,28 +9,28 @@ use lib.ListN.{length, drop}
 use lib.Seq.{drop-length}
 use lib.Dec.{ltb, leb, eqb}
 use borrow.Author.Tests.{eqb-true, leb-true}
-use Rattle.scope.proofs.Bools.{and-r}
+use Rattle.scope.proofs.Bools.{and-r, never}
 use Rattle.text_fields.specs.Text.{startsWith}
 use Rattle.text_fields.specs.Number.{largest}
 use Rattle.text_fields.specs.Read.{wordThen, fieldsThen, endThen}
 use Rattle.text_lines.specs.Form.{Form, formOf, forms, asked, made, formRead, tried, commandOf, readable}
-use Rattle.text_readings.specs.Printed.{lineAs, lineOf, Printed, Says}
+use Rattle.text_readings.specs.Printed.{lineAs, lineOf, Printed, SaysCommand}
 use Rattle.text_fields.specs.declared.read.Read.{Read}
 use Rattle.text_fields.specs.declared.read.Read.the-variants.{Numbers, Other}
 use Rattle.text_lines.specs.declared.command.Op.{Op}
 use Rattle.text_lines.specs.declared.command.Op.the-variants.{Post, Amend, Drop, Find, Rank, Total, Worth, Fire, Tidy, List as Listing}
 use Rattle.text_lines.specs.declared.command.Command.{Command}
 use Rattle.text_lines.specs.declared.command.Command.the-variants.{Unreadable}
-use Rattle.text_readings.proofs.Told.{Told, none, more, after, allSpaced, other-stays}
+use Rattle.text_readings.proofs.Told.{NumbersTold, none, more, afterNumbers, allSpaced, other-stays}
 use Rattle.text_readings.proofs.FieldsOnly.{starts-split, FieldsRead, fields-only}
-use Rattle.text_readings.proofs.Tables.{room, fits, proper}
+use Rattle.text_readings.proofs.Tables.{room, formFits, proper}
 use Rattle.text_readings.proofs.RoundTrip.{read-printed}
 
 -- a line that a form reads is a line of the form
 pub record LineIs (s : List ℕ) (f : Form) (a b c q : ℕ) : Type 0 where
   pub ns : List ℕ
-  pub told : Told (f .words) ns
-  pub is : Numbers a b c q ≡ after 0 0 0 ns q
+  pub told : NumbersTold (f .words) ns
+  pub is : Numbers a b c q ≡ afterNumbers 0 0 0 ns q
   pub text : s ≡ lineAs f ns
 
 line-only : (s : List ℕ) (f : Form) (a b c q : ℕ) → formRead s f ≡ Numbers a b c q → LineIs s f a b c q
@@ -38,7 +38,7 @@ unfolding wordThen FieldsRead endThen
 line-only s f a b c q = word (startsWith (f .name) s) refl
   where
     stop : {A : Type 0} → Other ≡ Numbers a b c q → A
-    stop e = let z : _≡_ {A = ℕ} 0 1 = cc in absurd (omega arith)
+    stop e = never cc
 
     whole : (r : Read) → FieldsRead s (f .words) 0 0 0 (0 + length (f .name)) r → startsWith (f .name) s ≡ true
         → endThen s r ≡ Numbers a b c q → LineIs s f a b c q
@@ -53,7 +53,7 @@ line-only s f a b c q = word (startsWith (f .name) s) refl
             record {
               ns = i .ns;
               told = i .told;
-              is = sym e ∙ i .is ∙ ap (after 0 0 0 (i .ns)) o;
+              is = sym e ∙ i .is ∙ ap (afterNumbers 0 0 0 (i .ns)) o;
               text =
                   starts-split (f .name) s t
                   ∙ ap (λ (u : List ℕ). f .name ++ u)
@@ -66,9 +66,9 @@ line-only s f a b c q = word (startsWith (f .name) s) refl
     word true t e = whole (fieldsThen s (f .words) (Numbers 0 0 0 (0 + length (f .name)))) (fields-only s (f .words) 0 0 0 (0 + length (f .name))) t e
 
 -- the numbers that were read are the last of three
-last-told : {ws : List (List ℕ)} {ns : List ℕ} (a b c q : ℕ) → length ws ≤ 3 → Told ws ns → Numbers a b c q ≡ after 0 0 0 ns q
+last-told : {ws : List (List ℕ)} {ns : List ℕ} (a b c q : ℕ) → length ws ≤ 3 → NumbersTold ws ns → Numbers a b c q ≡ afterNumbers 0 0 0 ns q
     → (ns ≡ drop (3 - length ws) (a ∷ b ∷ c ∷ [])) × (a ≤ largest) × (b ≤ largest) × (c ≤ largest)
-unfolding after
+unfolding afterNumbers
 last-told a b c q l none e =
     let x : a ≡ 0 = cc in
     let y : b ≡ 0 = cc in
@@ -92,8 +92,8 @@ last-told a b c q l (more {n = n} h (more {n = m} k (more {n = o} j none))) e =
 last-told a b c q l (more h (more k (more j (more i t)))) e = absurd (omega arith)
 
 -- a form that reads the line
-form-says : (o : Op) (s : List ℕ) (a b c q : ℕ) → formRead s (formOf o) ≡ Numbers a b c q → Says s (asked (formOf o .op) a b c)
-unfolding fits lineOf
+form-says : (o : Op) (s : List ℕ) (a b c q : ℕ) → formRead s (formOf o) ≡ Numbers a b c q → SaysCommand s (asked (formOf o .op) a b c)
+unfolding formFits lineOf
 form-says o s a b c q e =
     let f = formOf o in
     let i = line-only s f a b c q e in
@@ -106,7 +106,7 @@ form-says o s a b c q e =
     }
 
 -- forms tried one after the other
-tried-says : (os : List Op) (s : List ℕ) → (readable (tried (map formOf os) s Unreadable) ≡ true) → Says s (tried (map formOf os) s Unreadable)
+tried-says : (os : List Op) (s : List ℕ) → (readable (tried (map formOf os) s Unreadable) ≡ true) → SaysCommand s (tried (map formOf os) s Unreadable)
 unfolding tried readable
 tried-says [] s e = absurd (true≢false (sym e))
 tried-says (o ∷ os) s e = go (formRead s (formOf o)) refl (tried-says os s) e
@@ -114,20 +114,20 @@ tried-says (o ∷ os) s e = go (formRead s (formOf o)) refl (tried-says os s) e
     rest : Command
     rest = tried (map formOf os) s Unreadable
 
-    go : (r : Read) → formRead s (formOf o) ≡ r → (readable rest ≡ true → Says s rest)
-        → readable (made (formOf o .op) r rest) ≡ true → Says s (made (formOf o .op) r rest)
+    go : (r : Read) → formRead s (formOf o) ≡ r → (readable rest ≡ true → SaysCommand s rest)
+        → readable (made (formOf o .op) r rest) ≡ true → SaysCommand s (made (formOf o .op) r rest)
     go Other q ih e = ih e
     go (Numbers a b c p) q ih e = form-says o s a b c p q
 
 -- a readable line is the line of the command that it asks for
-pub readable-says : (s : List ℕ) → readable (commandOf s) ≡ true → Says s (commandOf s)
+pub readable-says : (s : List ℕ) → readable (commandOf s) ≡ true → SaysCommand s (commandOf s)
 unfolding commandOf readable
 readable-says s = go (ltb 80 (length s))
   where
     all : Command
     all = tried forms s Unreadable
 
-    go : (t : Bool) → readable (cond t Unreadable all) ≡ true → Says s (cond t Unreadable all)
+    go : (t : Bool) → readable (cond t Unreadable all) ≡ true → SaysCommand s (cond t Unreadable all)
     go true e = absurd (true≢false (sym e))
     go false e = tried-says (Post ∷ Amend ∷ Fire ∷ Drop ∷ Find ∷ Rank ∷ Total ∷ Tidy ∷ Worth ∷ Listing ∷ []) s e
 

@@ -11,14 +11,14 @@ use Rattle.text_fields.specs.declared.read.Read.{Read}
 use Rattle.text_fields.specs.declared.read.Read.the-variants.{Numbers, Other}
 
 -- words, and as many numbers of 32 bits
-pub data Told : List (List ℕ) → List ℕ → Type 0 where
-  none : Told [] []
-  more : {w : List ℕ} {ws : List (List ℕ)} {n : ℕ} {ns : List ℕ} → n ≤ largest → Told ws ns → Told (w ∷ ws) (n ∷ ns)
+pub data NumbersTold : List (List ℕ) → List ℕ → Type 0 where
+  none : NumbersTold [] []
+  more : {w : List ℕ} {ws : List (List ℕ)} {n : ℕ} {ns : List ℕ} → n ≤ largest → NumbersTold ws ns → NumbersTold (w ∷ ws) (n ∷ ns)
 
 -- what is known after some numbers more
-unfoldable pub after : ℕ → ℕ → ℕ → List ℕ → ℕ → Read
-after a b c [] at = Numbers a b c at
-after a b c (n ∷ ns) at = after b c n ns at
+unfoldable pub afterNumbers : ℕ → ℕ → ℕ → List ℕ → ℕ → Read
+afterNumbers a b c [] at = Numbers a b c at
+afterNumbers a b c (n ∷ ns) at = afterNumbers b c n ns at
 
 -- words that begin with no digit
 unfoldable pub spaced : List ℕ → Bool

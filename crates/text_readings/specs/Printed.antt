@@ -27,6 +27,6 @@ pub record Printed (s : List ℕ) : Type 0 where
   pub is : s ≡ lineOf op a b c
 
 -- and that command is x
-pub record Says (s : List ℕ) (x : Command) : Type 0 where
+pub record SaysCommand (s : List ℕ) (x : Command) : Type 0 where
   pub line : Printed s
   pub asks : x ≡ asked (line .op) (line .a) (line .b) (line .c)

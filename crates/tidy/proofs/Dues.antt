@@ -6,7 +6,7 @@ use mathlib.Core.List.{List}
 use native.Mathlib.Omega.{arith}
 use borrow.Author.Tests.{leb-true}
 use lib.ListN.{getD}
-use Rattle.scope.proofs.Bools.{and-l, and-r}
+use Rattle.scope.proofs.Bools.{and-l, and-r, never}
 use Rattle.scope.specs.Numbers.{ruleOf}
 use Rattle.scope.specs.Rules.{highestAt}
 use Rattle.scope.specs.Tidy.{nodesAt, present, holdsAt, dueAt, passes, firedAt, linkTo}
@@ -49,7 +49,7 @@ module _ (t : List ℕ) (c v n : ℕ) {r : Rule} (d : passes true t c v n ≡ tr
 pub due-unknown {ℓ} : {X : Type ℓ} (t : List ℕ) (c v n : ℕ) → passes true t c v n ≡ true
     → ruleOf n ≡ rule-is.Unknown → X
 unfolding passes
-due-unknown t c v n d e = let q = rw e at d in let y : _≡_ {A = ℕ} 0 1 = cc in absurd (omega arith)
+due-unknown t c v n d e = let q = rw e at d in never cc
 
 -- the rule r of that number, the link as it was noted, and what was seen there
 module _ {t : List ℕ} {c : ℕ} {h m : List ℕ} {v n : ℕ} (d : Due t c h m v n) {r : Rule} (e : ruleOf n ≡ rule-is.Known r)
@@ -63,7 +63,7 @@ module _ {t : List ℕ} {c : ℕ} {h m : List ℕ} {v n : ℕ} (d : Due t c h m 
       s ∙ due-seen t c v n (d .due) e link ∙ ap (λ (i : Link). Seen (nodesAt t r i v)) k
 
   pub never-missing {ℓ} : {X : Type ℓ} → x ≡ Missing → X
-  never-missing q = let z = seen-here in let y : _≡_ {A = ℕ} 0 1 = cc in absurd (omega arith)
+  never-missing q = let z = seen-here in never cc
 
   nodes-are : {y : Nodes} → x ≡ Seen y → y ≡ nodes
   nodes-are q = let z = seen-here in cc

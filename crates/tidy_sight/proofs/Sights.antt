@@ -6,7 +6,7 @@ use mathlib.Core.List.{List}
 use native.Mathlib.Omega.{arith}
 use borrow.Author.Tests.{eqb-false, leb-true}
 use lib.Dec.{eqb}
-use Rattle.scope.proofs.Bools.{and-r, by-bool}
+use Rattle.scope.proofs.Bools.{and-r, by-bool, never}
 use Rattle.scope.specs.Numbers.{other, rootLink, ruleOf}
 use Rattle.scope.specs.Table.{slotAt, son}
 use Rattle.scope.specs.Rules.{guardAt}
@@ -57,7 +57,7 @@ judged-passes limited t c v n {r} e =
 pub named : (c k : ℕ) → names c k ≡ true → (1 ≤ k) × (k ≤ c)
 named c k e =
     by-bool (eqb k 0)
-    (λ z. let p = simp z at e in let y : _≡_ {A = ℕ} 0 1 = cc in absurd (omega arith))
+    (λ z. let p = simp z at e in never cc)
     (λ z. (omega (arith, eqb-false k 0 z), leb-true k c (and-r (not (eqb k 0)) _ e)))
 
 -- a third node that was read

@@ -51,9 +51,9 @@ abbrev pub Test : Type 0
 Test = Kind → Pair → Pair → Pair → Bool
 
 -- a node over a near son that may have been rewritten
-abbrev pub hung : Side → Batch → Pair → Option Tree → Tree → Option Tree
-hung s d x none far = none
-hung s d x (some near) far = some (mk s d x near far)
+abbrev pub overNear : Side → Batch → Pair → Option Tree → Tree → Option Tree
+overNear s d x none far = none
+overNear s d x (some near) far = some (mk s d x near far)
 
 module _ (test : Test) where
   -- the rules where v and u are there
@@ -72,7 +72,7 @@ module _ (test : Test) where
   -- a rule at the end of a way down from the top
   unfoldable pub rewriteAt : List Side → Rule → Tree → Option Tree
   rewriteAt [] r T = rewriteTop r T
-  rewriteAt (s ∷ way) r T = onTop s T (λ d x near far. hung s d x (rewriteAt way r near) far)
+  rewriteAt (s ∷ way) r T = onTop s T (λ d x near far. overNear s d x (rewriteAt way r near) far)
 
 -- the firings: the published guard is the test
 abbrev pub fireTop : Rule → Tree → Option Tree
@@ -98,18 +98,18 @@ abbrev pub attempted : Attempt → Tree → Option Tree
 attempted x T = fireAt (x .way) (x .rule) T
 
 -- the tree after it, and 1 if it was accepted
-abbrev pub kept : Option Tree → Tree → Tree
-kept none T = T
-kept (some T′) T = T′
+abbrev pub orSame : Option Tree → Tree → Tree
+orSame none T = T
+orSame (some T′) T = T′
 
-abbrev pub counted : Option Tree → ℕ
-counted none = 0
-counted (some T) = 1
+abbrev pub oneIf : Option Tree → ℕ
+oneIf none = 0
+oneIf (some T) = 1
 
-unfoldable pub after : List Attempt → Tree → Tree
-after [] T = T
-after (x ∷ xs) T = after xs (kept (attempted x T) T)
+unfoldable pub afterAttempts : List Attempt → Tree → Tree
+afterAttempts [] T = T
+afterAttempts (x ∷ xs) T = afterAttempts xs (orSame (attempted x T) T)
 
-unfoldable pub accepted : List Attempt → Tree → ℕ
-accepted [] T = 0
-accepted (x ∷ xs) T = counted (attempted x T) + accepted xs (kept (attempted x T) T)
+unfoldable pub acceptedAttempts : List Attempt → Tree → ℕ
+acceptedAttempts [] T = 0
+acceptedAttempts (x ∷ xs) T = oneIf (attempted x T) + acceptedAttempts xs (orSame (attempted x T) T)

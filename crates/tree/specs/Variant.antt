@@ -27,8 +27,8 @@ unfoldable pub long : ℕ → ℕ → ℕ
 long above h = above - h
 
 -- a balance, and by how much it is over one
-unfoldable pub apart : ℕ → ℕ → ℕ
-apart a b = gap a b
+unfoldable pub imbalance : ℕ → ℕ → ℕ
+imbalance a b = gap a b
 
 unfoldable pub excess : ℕ → ℕ → ℕ
 excess a b = gap a b - 1
@@ -37,7 +37,7 @@ abbrev pub negative : Scale
 negative = record { carries = short; balances = λ a b. 0 }
 
 abbrev pub mixed : Scale
-mixed = record { carries = λ o above h. 2 * long above h; balances = apart }
+mixed = record { carries = λ o above h. 2 * long above h; balances = imbalance }
 
 abbrev pub uneven : Scale
 uneven = record { carries = λ o above h. 0; balances = excess }

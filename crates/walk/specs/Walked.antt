@@ -12,14 +12,14 @@ use Rattle.scope.specs.declared.outcome.Walk.{Walk}
 use Rattle.scope.specs.declared.outcome.Walk.the-variants.{Hit, Miss, Damage}
 
 -- slots, holders and visits are at most c
-abbrev pub Inside : ℕ → Walk → Type 0
-Inside c (Hit slot link seen) = (1 ≤ slot) × (slot ≤ c) × (link .holder ≤ c) × (1 ≤ seen) × (seen ≤ c)
-Inside c (Miss link seen) = (link .holder ≤ c) × (seen ≤ c)
-Inside c Damage = Unit {0}
+abbrev pub WalkInside : ℕ → Walk → Type 0
+WalkInside c (Hit slot link seen) = (1 ≤ slot) × (slot ≤ c) × (link .holder ≤ c) × (1 ≤ seen) × (seen ≤ c)
+WalkInside c (Miss link seen) = (link .holder ≤ c) × (seen ≤ c)
+WalkInside c Damage = Unit {0}
 
 pub record Walked (t : List ℕ) (c key : ℕ) (r : Walk) : Type 0 where
   pub is : r ≡ walkOf t c key
-  pub inside : Inside c r
+  pub inside : WalkInside c r
 
 -- the side on which a key would hang under a slot
 unfoldable pub wayOf : ℕ → Slot → Side

@@ -12,7 +12,7 @@ ghost use lib.ListN.{length, replicate};
 ghost use Rattle.scope.specs.Find.{foundIn};
 ghost use Rattle.scope.specs.Calls.{Start, Find, Promise};
 ghost use Rattle.spelling.specs.Ready.{Sized, Ready};
-ghost use Rattle.walk.specs.Walked.{Walked, Inside, wayOf};
+ghost use Rattle.walk.specs.Walked.{Walked, WalkInside, wayOf};
 
 // The side on which a key would hang under a slot.
 pub fn way(key: u32, s: Slot) -> Side
@@ -61,7 +61,7 @@ pub fn search(t: &[u32], c: usize, key: u32) -> Walk
 
 // What find answers at a walk's end.
 pub fn found(t: &[u32], c: usize, w: Walk) -> Answer
-    requires { ⌜ Sized (now t) c × Inside c w ⌝ }
+    requires { ⌜ Sized (now t) c × WalkInside c w ⌝ }
     ensures { λ r. ⌜ r ≡ foundIn (now (t .entry)) w ⌝ }
 {
     match w {

@@ -10,7 +10,7 @@ use Rattle.scope.specs.Post.{freeFrom, freeSlot}
 use Rattle.spelling.specs.Ready.{Sized, Free}
 
 -- the slots before k are taken: what is left to search gives the whole answer
-pub record Seeking (t : List ℕ) (c k : ℕ) : Type 0 where
+pub record FreeSeeking (t : List ℕ) (c k : ℕ) : Type 0 where
   pub first : 1 ≤ k
   pub last : k ≤ c + 1
   pub rest : freeFrom (c + 1 - k) t k ≡ freeSlot t c
@@ -27,7 +27,7 @@ free-none : (t : List ℕ) (n k : ℕ) → n ≡ 0 → freeFrom n t k ≡ 0
 unfolding freeFrom
 free-none t n k e = rw e
 
-pub seek-start : (t : List ℕ) (c : ℕ) → Seeking t c 1
+pub seek-start : (t : List ℕ) (c : ℕ) → FreeSeeking t c 1
 unfolding freeSlot
 seek-start t c = record {
   first = omega arith;
@@ -35,11 +35,11 @@ seek-start t c = record {
   rest = ap (λ (n : ℕ). freeFrom n t 1) (omega arith);
 }
 
-module _ {t : List ℕ} {c k : ℕ} (so-far : Seeking t c k) where
+module _ {t : List ℕ} {c k : ℕ} (so-far : FreeSeeking t c k) where
   pub seek-here : k ≤ c → slotAt t k .state ≡ 0 → Free t c k
   seek-here le z = record { is = sym (free-here t (c + 1 - k) (c - k) k (omega arith) z) ∙ so-far .rest; most = le }
 
-  pub seek-on : k ≤ c → (slotAt t k .state ≡ 0 → ⊥) → Seeking t c (k + 1)
+  pub seek-on : k ≤ c → (slotAt t k .state ≡ 0 → ⊥) → FreeSeeking t c (k + 1)
   seek-on le z = record {
     first = omega arith;
     last = omega arith;
@@ -51,7 +51,7 @@ module _ {t : List ℕ} {c k : ℕ} (so-far : Seeking t c k) where
 
 -- the search at place b, which is the first word of a slot
 pub record AtPlace (t : List ℕ) (c b : ℕ) : Type 0 where
-  pub seeking : Seeking t c (b / slotWords + 1)
+  pub seeking : FreeSeeking t c (b / slotWords + 1)
   pub place : b % slotWords ≡ 4
 
 pub place-start : (t : List ℕ) (c : ℕ) → AtPlace t c 4

@@ -29,7 +29,7 @@ use Rattle.scope.specs.declared.outcome.Firing.the-variants.{Refuse}
 use Rattle.tree.specs.Rewrite.{mk, ruleOn, Test, when, within, rewriteTop, fireTop, propagated, rotated, doubled}
 use Rattle.tree.proofs.Firing.Steps.{by-side, top-is}
 use Rattle.tree.proofs.Firing.Sides.{times-mk}
-use Rattle.bridge.specs.Below.{Hangs, Below}
+use Rattle.bridge.specs.Below.{Hangs, ChangedBelow}
 use Rattle.bridge.specs.Alike.{guard-fails, too-high, Alike}
 use Rattle.bridge.proofs.Links.Looks.{Looks, look}
 use Rattle.bridge.proofs.Links.Outside.{same-one, StandsIn}
@@ -76,7 +76,7 @@ module _ (t : List ℕ) (c : ℕ) (l : Link) where
 
   -- what a firing at l makes of the tree that hangs there
   abbrev pub At : Tree → Tree → List ℕ → Type 0
-  At S S′ t′ = Below t t′ c l S S′
+  At S S′ t′ = ChangedBelow t t′ c l S S′
 
   -- no v, no u, no w
   no-v : (r : Rule) → Hangs t c l leaf → aimV t c r l ≡ Refuse GuardFails

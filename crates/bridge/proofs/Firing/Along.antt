@@ -21,10 +21,10 @@ use Rattle.scope.specs.declared.answer.Refusal.{Refusal}
 use Rattle.scope.specs.declared.outcome.Firing.{Firing}
 use Rattle.scope.specs.declared.outcome.Firing.the-variants.{Refuse, Fire}
 use Rattle.spelling.proofs.Laws.{fits}
-use Rattle.tree.specs.Rewrite.{mk, hung, fireAt, acceptAt, rewriteAt}
+use Rattle.tree.specs.Rewrite.{mk, overNear, fireAt, acceptAt, rewriteAt}
 use Rattle.tree.specs.Place.{subtree}
 use Rattle.tree.proofs.Firing.Steps.{on-top, top-is}
-use Rattle.bridge.specs.Below.{Hangs, Below, Cut}
+use Rattle.bridge.specs.Below.{Hangs, ChangedBelow, Cut}
 use Rattle.bridge.specs.Alike.{Unmet, guard-fails, too-high, Alike}
 use Rattle.bridge.specs.Leads.{linkAlong}
 use Rattle.tree.specs.Seek.{route, endOf, atKey}
@@ -51,13 +51,13 @@ aim-held t c r l e =
 
 -- what is alike for a son is so for its node
 hung-unmet : (s : Side) (d : Batch) (p : Pair) (far : Tree) {g : Option Tree} {why : Refusal} → Unmet g why
-    → Unmet (hung s d p g far) why
+    → Unmet (overNear s d p g far) why
 hung-unmet s d p far guard-fails = guard-fails
 hung-unmet s d p far too-high = too-high
 
 hung-alike : (t : List ℕ) (Q R : Tree → List ℕ → Type 0) (s : Side) (d : Batch) (p : Pair) (far : Tree) (g o : Option Tree) (f : Firing)
     → ((near : Tree) (t′ : List ℕ) → Q near t′ → R (mk s d p near far) t′) → Alike t Q g o f
-    → Alike t R (hung s d p g far) (hung s d p o far) f
+    → Alike t R (overNear s d p g far) (overNear s d p o far) f
 hung-alike t Q R s d p far g none (Refuse why) up a = hung-unmet s d p far a
 hung-alike t Q R s d p far g none (Fire r n) up a = a
 hung-alike t Q R s d p far g (some near) (Refuse why) up a = a
@@ -66,13 +66,13 @@ hung-alike t Q R s d p far g (some near) (Fire r n) up a = up near _ a
 -- ALONG A WAY: on words as on the tree
 pub same-along : {t : List ℕ} {c : ℕ} (r : Rule) (way : List Side) (l : Link) (T S : Tree) → Hangs t c l T → Held t c l
     → subtree way T ≡ some S
-    → Alike t (λ T′ t′. Below t t′ c l T T′) (fireAt way r T) (acceptAt way r T) (aim t c r (linkAlong t way l))
+    → Alike t (λ T′ t′. ChangedBelow t t′ c l T T′) (fireAt way r T) (acceptAt way r T) (aim t c r (linkAlong t way l))
 unfolding subtree rewriteAt linkAlong
 same-along {t} {c} r [] l T S h g e = rw (aim-held t c r l g) (same-at t c l r T h)
 same-along {t} {c} r (s ∷ way) l T S h g e =
     on-top s T S _ e
     (λ X. Hangs t c l X
-    → Alike t (λ T′ t′. Below t t′ c l X T′) (fireAt (s ∷ way) r X) (acceptAt (s ∷ way) r X) (aim t c r (linkAlong t (s ∷ way) l)))
+    → Alike t (λ T′ t′. ChangedBelow t t′ c l X T′) (fireAt (s ∷ way) r X) (acceptAt (s ∷ way) r X) (aim t c r (linkAlong t (s ∷ way) l)))
     (λ d p near far q k.
     let held : Held t c (record { holder = word t (linkAt l); side = s })
     = by-bool (eqb (word t (linkAt l)) 0) (λ z. simp z) (λ z. simp z (holder-fit l s d p near far k)) in

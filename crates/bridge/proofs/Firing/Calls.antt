@@ -8,7 +8,7 @@ use native.Mathlib.Decide.{decLe, ℕ-discrete}
 use lib.ListN.{length}
 use lib.Dec.{ltb, eqb}
 use borrow.Author.Tests.{eq-eqb, ne-eqb, le-leb, eqb-true, ltb-false}
-use Rattle.scope.proofs.Bools.{by-bool}
+use Rattle.scope.proofs.Bools.{by-bool, never}
 use Rattle.scope.specs.Numbers.{rootLink, slotsOf, sideOf, linkOf, knownLink, ruleOf}
 use Rattle.scope.specs.Table.{slotWords, slotsIn}
 use Rattle.scope.specs.Tree.{Tree, times}
@@ -50,10 +50,10 @@ side-left n s e z = let q = rw z at e in cc
 
 known-in : (c holder n : ℕ) (i : SideIs) (l : Link) → holder ≤ c → sideOf n ≡ i
     → knownLink holder n i ≡ link-is.Known l → LinkIn c l
-known-in c holder n side-is.Unknown l h e q = let z : _≡_ {A = ℕ} 0 1 = cc in absurd (omega arith)
+known-in c holder n side-is.Unknown l h e q = never cc
 known-in c holder n (side-is.Known s) l h e q =
     by-bool (eqb holder 0 && not (eqb n 0))
-    (λ p. let x = simp p at q in let z : _≡_ {A = ℕ} 0 1 = cc in absurd (omega arith))
+    (λ p. let x = simp p at q in never cc)
     (λ p. let x = simp p at q in
     let is : record { holder = holder; side = s } ≡ l = cc in
     rw (← is)
@@ -62,14 +62,14 @@ known-in c holder n (side-is.Known s) l h e q =
       root = λ z. let y = rw (eq-eqb holder 0 z) at p in
           by-bool (eqb n 0)
           (λ w. rw (z, side-left n s e (eqb-true n 0 w)) refl)
-          (λ w. let v = rw w at y in let o : _≡_ {A = ℕ} 0 1 = cc in absurd (omega arith));
+          (λ w. let v = rw w at y in never cc);
     }))
 
 pub link-in : (c holder side : ℕ) (l : Link) → linkOf c holder side ≡ link-is.Known l → LinkIn c l
 unfolding linkOf
 link-in c holder side l e =
     by-bool (ltb c holder)
-    (λ p. let x = simp p at e in let z : _≡_ {A = ℕ} 0 1 = cc in absurd (omega arith))
+    (λ p. let x = simp p at e in never cc)
     (λ p. known-in c holder side (sideOf side) l (omega (arith, ltb-false c holder p)) refl (simp p at e))
 
 module _ {t : List ℕ} {c : ℕ} (w : Whole t c) where

@@ -29,7 +29,7 @@ use Rattle.spelling.proofs.Spell.{tree-in}
 use Rattle.tree.specs.Rewrite.{fireAt, acceptAt, within}
 use Rattle.tree.proofs.Firing.Keeps.{keeps, times-kept, size-kept}
 use Rattle.tree.proofs.Firing.Order.{ordered-kept}
-use Rattle.bridge.specs.Below.{Hangs, Below}
+use Rattle.bridge.specs.Below.{Hangs, ChangedBelow}
 use Rattle.bridge.specs.Alike.{Alike}
 use Rattle.bridge.specs.Leads.{Leads}
 use Rattle.bridge.specs.Fired.{Fired}
@@ -67,7 +67,7 @@ module _ {t : List ℕ} {c : ℕ} (w : Whole t c) where
       }
 
   -- a change below the root's link that keeps the records keeps the table sound
-  pub still-sound : {t′ : List ℕ} {T′ : Tree} → Below t t′ c rootLink T T′ → inOrder T′ ≡ inOrder T → Fired t t′ c T T′
+  pub still-sound : {t′ : List ℕ} {T′ : Tree} → ChangedBelow t t′ c rootLink T T′ → inOrder T′ ≡ inOrder T → Fired t t′ c T T′
   still-sound {t′} {T′} b e =
       let top : word t′ rootWord ≡ b .top = b .root in
       let s : Sound t′ c = record {
@@ -87,7 +87,7 @@ module _ {t : List ℕ} {c : ℕ} (w : Whole t c) where
 
   -- what comes out below the root leaves the table sound
   sound-alike : (r : Rule) (way : List Side) (o : Option Tree) (f : Firing) → acceptAt way r T ≡ o
-      → Alike t (λ T′ t′. Below t t′ c rootLink T T′) (fireAt way r T) o f
+      → Alike t (λ T′ t′. ChangedBelow t t′ c rootLink T T′) (fireAt way r T) o f
       → Alike t (λ T′ t′. Fired t t′ c T T′) (fireAt way r T) o f
   sound-alike r way none (Refuse why) e a = a
   sound-alike r way none (Fire q n) e a = a

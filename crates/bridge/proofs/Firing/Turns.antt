@@ -21,7 +21,7 @@ use Rattle.tree.specs.Rewrite.{mk, propagated, rotated}
 use Rattle.tree.proofs.Firing.Sides.{times-mk}
 use Rattle.scope.specs.Edits.{sonOn, registerOn, Edit, edit, writes}
 use Rattle.bridge.specs.Edit.{edited, shape}
-use Rattle.bridge.specs.Below.{Hangs, Below}
+use Rattle.bridge.specs.Below.{Hangs, ChangedBelow}
 use Rattle.bridge.proofs.Links.Edited.{Rewritten, rewritten}
 use Rattle.bridge.proofs.Links.Looks.{shape-self, near-son, far-son, near-register, far-register, fit-from, Looks, look, spell}
 use Rattle.bridge.proofs.Links.Outside.{same-one, Away, StandsIn, InTree, in-inside, steady, steady-root, stays}
@@ -102,7 +102,7 @@ module _ {t : List ℕ} {c : ℕ} (l : Link) (s : Side) (dv du : Batch) (v u : P
           (stays (rules.propagated s both) r (son (slotAt t x) (other s)) far (λ k i. propagate-away k (omega arith)) (look-v .farSon)))
 
     pub propagate-below : localh u ≤ mostHeight
-        → Below t (written t (writes (rules.propagated s both))) c l (mk s dv v (mk s du u m n) far) (propagated s dv du v u m n far)
+        → ChangedBelow t (written t (writes (rules.propagated s both))) c l (mk s dv v (mk s du u m n) far) (propagated s dv du v u m n far)
     propagate-below low =
         let r = rewritten (h .sized) (rules.propagated s both) (in-inside c _ (rules.propagated s both) propagate-in) in
         (record {
@@ -168,7 +168,7 @@ module _ {t : List ℕ} {c : ℕ} (l : Link) (s : Side) (dv du : Batch) (v u : P
           (stays (rules.rotated s both) r _ far (λ k i. rotate-away k (omega arith)) (look-v .farSon))))
 
     pub rotate-below : localh (turnedV v u) ≤ mostHeight
-        → Below t (written t (writes (rules.rotated s both))) c l (mk s dv v (mk s du u m n) far) (rotated s dv du v u m n far)
+        → ChangedBelow t (written t (writes (rules.rotated s both))) c l (mk s dv v (mk s du u m n) far) (rotated s dv du v u m n far)
     rotate-below low =
         let r = rewritten (h .sized) (rules.rotated s both) (h .holder, in-inside c _ turns rotate-in) in
         (record {

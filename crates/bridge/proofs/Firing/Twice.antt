@@ -19,7 +19,7 @@ use Rattle.tree.proofs.Firing.Sides.{times-mk}
 use Rattle.scope.specs.Edits.{sonOn, registerOn, Edit, edit, writes}
 use Rattle.scope.specs.Rules.{rotatedTwice}
 use Rattle.bridge.specs.Edit.{edited, shape}
-use Rattle.bridge.specs.Below.{Hangs, Below}
+use Rattle.bridge.specs.Below.{Hangs, ChangedBelow}
 use Rattle.bridge.proofs.Links.Edited.{Rewritten, rewritten}
 use Rattle.bridge.proofs.Links.Looks.{shape-self, near-son, far-son, near-register, far-register, fit-from, Looks, look, spell}
 use Rattle.bridge.proofs.Links.Outside.{same-one, Away, StandsIn, InTree, in-inside, outside-slots, outside-root, stays}
@@ -177,7 +177,7 @@ module _ {t : List ℕ} {c : ℕ} (l : Link) (s : Side) (dv du dw : Batch) (v u 
         (stays (rotatedTwice s three) r _ far (λ k i. away k (omega arith)) (lv .farSon))))
 
   pub twice-below : max (localh (doubledU u w)) (localh (doubledV v w)) ≤ mostHeight
-      → Below t (written t (writes (rotatedTwice s three))) c l whole (doubled s dv du v u dw w m e f far)
+      → ChangedBelow t (written t (writes (rotatedTwice s three))) c l whole (doubled s dv du v u dw w m e f far)
   twice-below low =
       let r = rewritten (h .sized) (rotatedTwice s three) (h .holder, in-inside c _ turns twice-in) in
       let lowU : localh (doubledU u w) ≤ mostHeight = omega arith in

@@ -23,7 +23,7 @@ use Rattle.tree.specs.Rewrite.{mk}
 use Rattle.tree.proofs.Firing.Sides.{times-mk}
 use Rattle.scope.specs.Edits.{sonOn, registerOn}
 use Rattle.bridge.specs.Edit.{withPart, shape}
-use Rattle.bridge.specs.Below.{Hangs, Below, Cut}
+use Rattle.bridge.specs.Below.{Hangs, ChangedBelow, Cut}
 use Rattle.tree.specs.Seek.{beside}
 use Rattle.bridge.proofs.Links.Looks.{shape-self, near-son, near-register, fit-from, Looks, look, spell}
 use Rattle.bridge.proofs.Links.Outside.{same-one, first-slot, steady, steady-root}
@@ -38,7 +38,7 @@ unfolding linkOk
 no-link c = rw (le-leb 0 c (omega arith)) refl
 
 -- a link that takes a slot is one that may become 0
-pub below-cut : {t t′ : List ℕ} {c : ℕ} {l : Link} {S S′ : Tree} → Below t t′ c l S S′ → Cut t t′ c l S S′
+pub below-cut : {t t′ : List ℕ} {c : ℕ} {l : Link} {S S′ : Tree} → ChangedBelow t t′ c l S S′ → Cut t t′ c l S S′
 below-cut b =
     record {
       sized = b .sized;
@@ -88,7 +88,7 @@ module _ {t : List ℕ} {c : ℕ} (l : Link) (s : Side) (d : Batch) (p : Pair) (
       (slot-x : slotAt t′ x ≡ shape s (slotAt t x) y (son (slotAt t x) (other s)) (pair g (seen s (slotAt t x) .far)))
       (stay : (k : ℕ) → 1 ≤ k → times k near ≡ 0 → (k ≡ x → ⊥) → slotAt t′ k ≡ slotAt t k)
       (root′ : word t′ rootWord ≡ word t rootWord) (head′ : (i : ℕ) → 1 ≤ i → i < 4 → word t′ i ≡ word t i) where
-    node-below : Below t t′ c l (mk s d p near far) (mk s d (pair g (p .far)) near′ far)
+    node-below : ChangedBelow t t′ c l (mk s d p near far) (mk s d (pair g (p .far)) near′ far)
     node-below =
         record {
           sized = sized′;
@@ -117,7 +117,7 @@ module _ {t : List ℕ} {c : ℕ} (l : Link) (s : Side) (d : Batch) (p : Pair) (
   module _ {t′ : List ℕ} where
     -- a change below the son's link is one below the node's; where nothing is left there, the register beside it is 0
     pub above-cut : (near′ : Tree) → Cut t t′ c down near near′
-        → Below t t′ c l (mk s d p near far) (mk s d (pair (beside (p .near) near′) (p .far)) near′ far)
+        → ChangedBelow t t′ c l (mk s d p near far) (mk s d (pair (beside (p .near) near′) (p .far)) near′ far)
     unfolding Spells
     above-cut leaf b =
         let e : eqb (b .top) 0 ≡ true = rw (b .spells) refl in
@@ -140,7 +140,7 @@ module _ {t : List ℕ} {c : ℕ} (l : Link) (s : Side) (d : Batch) (p : Pair) (
         ∙ near-son s r _ _ _ (b .top) ∙ rw (top .registers) refl))
         (λ k i z ne. b .slots k i z ∙ rw (e, ne-eqb k x ne)) (b .root ∙ rw not-root) (b .head)
 
-    pub above : (near′ : Tree) → Below t t′ c down near near′ → Below t t′ c l (mk s d p near far) (mk s d p near′ far)
+    pub above : (near′ : Tree) → ChangedBelow t t′ c down near near′ → ChangedBelow t t′ c l (mk s d p near far) (mk s d p near′ far)
     unfolding Spells
     above leaf b = absurd (omega (arith, b .first, b .spells))
     above (node d′ a′ b′ l′ r′) b = above-cut (node d′ a′ b′ l′ r′) (below-cut b)

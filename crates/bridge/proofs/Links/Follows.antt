@@ -21,7 +21,7 @@ use Rattle.scope.specs.declared.outcome.Leftmost.the-variants as leftmost
 use Rattle.spelling.proofs.Laws.{fit-left, link-son}
 use Rattle.scope.specs.Edits.{sonOn}
 use Rattle.bridge.specs.Edit.{shape, withPart}
-use Rattle.bridge.specs.Below.{Hangs, Below}
+use Rattle.bridge.specs.Below.{Hangs, ChangedBelow}
 use Rattle.tree.specs.Without.{least, leastLink}
 
 part-son : (s : Side) (n : ℕ) (z : Slot) → son (withPart (sonOn s) n z) s ≡ n
@@ -34,7 +34,7 @@ unfolding withPart shape
 part-twice Left n m z = refl
 part-twice Right n m z = refl
 
-module _ {t t′ : List ℕ} {c : ℕ} {l : Link} {S S′ : Tree} (b : Below t t′ c l S S′)
+module _ {t t′ : List ℕ} {c : ℕ} {l : Link} {S S′ : Tree} (b : ChangedBelow t t′ c l S S′)
     (keeps : (k : ℕ) → times k S′ ≡ times k S) where
   -- what hangs at the link afterwards
   link-top : times (l .holder) S ≡ 0 → word t′ (linkAt l) ≡ b .top
@@ -60,7 +60,7 @@ module _ {t t′ : List ℕ} {c : ℕ} {l : Link} {S S′ : Tree} (b : Below t t
       }
 
   -- and a second change there
-  pub below-then : {t₂ : List ℕ} {S₂ : Tree} → Below t′ t₂ c l S′ S₂ → Below t t₂ c l S S₂
+  pub below-then : {t₂ : List ℕ} {S₂ : Tree} → ChangedBelow t′ t₂ c l S′ S₂ → ChangedBelow t t₂ c l S S₂
   below-then a =
       record {
         sized = a .sized;
@@ -77,14 +77,14 @@ module _ {t t′ : List ℕ} {c : ℕ} {l : Link} {S S′ : Tree} (b : Below t t
       }
 
 -- the leftmost record stands in a fit slot of the table
-pub record Stands (t : List ℕ) (c : ℕ) (m : Batch) : Type 0 where
+pub record LeastStands (t : List ℕ) (c : ℕ) (m : Batch) : Type 0 where
   pub first : 1 ≤ m .slot
   pub most : m .slot ≤ c
   pub fit : fitSlot c (slotAt t (m .slot)) ≡ true
   pub holds : m ≡ batchAt t (m .slot)
 
 pub least-stands : (t : List ℕ) (c x : ℕ) (d : Batch) (a b : ℕ) (l r : Tree) → x ≤ c → Spells t c x (node d a b l r)
-    → Stands t c (least d l)
+    → LeastStands t c (least d l)
 unfolding Spells least
 least-stands t c x d a b leaf r h p =
     rw (p .holds) (record { first = p .there; most = h; fit = p .fit; holds = refl })

@@ -16,7 +16,7 @@ use Rattle.spelling.proofs.Frame.{frame, none-at-0}
 use Rattle.spelling.proofs.Laws.{link-son}
 use Rattle.scope.specs.Edits.{sonOn, Edit, edit}
 use Rattle.bridge.specs.Edit.{edited, rooted}
-use Rattle.bridge.specs.Below.{relinked}
+use Rattle.bridge.specs.Below.{slotRelinked}
 use Rattle.bridge.proofs.Links.Edited.{Inside, Rewritten}
 use Rattle.bridge.proofs.Links.Looks.{same-son}
 
@@ -67,7 +67,7 @@ module _ (c : ℕ) (S : Tree) where
 
 -- a link that takes the number it has leaves everything
 module _ (t : List ℕ) (l : Link) where
-  pub steady : (k : ℕ) → 1 ≤ k → slotAt t k ≡ relinked l (word t (linkAt l)) k (slotAt t k)
+  pub steady : (k : ℕ) → 1 ≤ k → slotAt t k ≡ slotRelinked l (word t (linkAt l)) k (slotAt t k)
   steady k i =
       elim (ℕ-discrete k (l .holder)) [
         | yes e ↦ rw (eq-eqb k (l .holder) e)
@@ -86,7 +86,7 @@ module _ (t : List ℕ) (l : Link) where
 module _ {t t′ : List ℕ} {c : ℕ} (S : Tree) where
   -- outside S the edits below a link are those of the link
   module _ (l : Link) (top : ℕ) (es : List Edit) (i : InTree c S es) (r : Rewritten t t′ c (edit (l .holder) (sonOn (l .side)) top ∷ es)) where
-    pub outside-slots : (k : ℕ) → 1 ≤ k → times k S ≡ 0 → slotAt t′ k ≡ relinked l top k (slotAt t k)
+    pub outside-slots : (k : ℕ) → 1 ≤ k → times k S ≡ 0 → slotAt t′ k ≡ slotRelinked l top k (slotAt t k)
     unfolding edited
     outside-slots k h z = r .slots k h ∙ edited-away k es _ (in-away c S k z es i)
 

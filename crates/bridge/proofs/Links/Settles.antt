@@ -23,10 +23,10 @@ use Rattle.spelling.proofs.Laws.{header-count}
 use Rattle.spelling.specs.Whole.{Whole}
 use Rattle.spelling.proofs.Frame.{frame}
 use Rattle.spelling.proofs.Spell.{tree-in}
-use Rattle.bridge.specs.Below.{Hangs, Below, Cut}
+use Rattle.bridge.specs.Below.{Hangs, ChangedBelow, Cut}
 use Rattle.bridge.specs.Leads.{linkAlong}
 use Rattle.tree.specs.Seek.{seek, route, endOf, amendTop}
-use Rattle.bridge.specs.Settled.{Settled, Spelled}
+use Rattle.bridge.specs.Settled.{Resettled, Spelled}
 use Rattle.bridge.proofs.Links.Outside.{first-slot}
 use Rattle.spelling.proofs.Wrote.{head-slots}
 use Rattle.bridge.proofs.Links.Above.{below-cut}
@@ -36,7 +36,7 @@ use Rattle.bridge.proofs.Records.Amends.{amend-below}
 use Rattle.bridge.proofs.Firing.Fires.{hangs-root, new-header}
 
 pub settles : {t t₁ t₂ : List ℕ} {c : ℕ} {T T′ : Tree} → headerOk c t ≡ true → Cut t t₁ c rootLink T T′
-    → Settled t₁ t₂ c T′ → Spelled t₂ c T′
+    → Resettled t₁ t₂ c T′ → Spelled t₂ c T′
 settles {t} {t₁} {t₂} {c} {T} {T′} e b s =
     let top : word t₂ rootWord ≡ b .top = s .root ∙ b .root in
     let s₂ : Sound t₂ c = record {
@@ -74,7 +74,7 @@ module _ {t₁ : List ℕ} {c : ℕ} (z : Sized t₁ c) (n m : ℕ) where
 
   pub recounted-settled : {T : Tree} → size T ≡ n → size T ≤ c → ((k : ℕ) → 1 ≤ k → k ≤ c → times k T ≤ 1) → Ordered T
       → ((k : ℕ) → 1 ≤ k → k ≤ c → times k T ≡ 0 → blankSlot (slotAt t₁ k) ≡ true)
-      → Settled t₁ recounted c T
+      → Resettled t₁ recounted c T
   recounted-settled count room once order rest =
       let u = set t₁ countWord n in
       record {
@@ -107,18 +107,18 @@ module _ {t : List ℕ} {c : ℕ} (w : Whole t c) (key pieces state : ℕ) (ok :
   at-end = hangs-along (route key T) rootLink T (endOf key T) (hangs-root w) (end-there key T)
 
   here : (a b : ℕ) (left right : Tree) → Hangs t c l (node d a b left right)
-      → Below t t₁ c l (node d a b left right) (amendTop pieces state (node d a b left right))
+      → ChangedBelow t t₁ c l (node d a b left right) (amendTop pieces state (node d a b left right))
   unfolding Spells
   here a b left right h =
       let at : word t (linkAt l) ≡ d .slot = ap (λ (e : Batch). e .slot) (sym (h .spells .holds)) in
-      subst (λ (k : ℕ). Below t (withSlot t k (withPieces (slotAt t k) pieces state)) c l (node d a b left right)
+      subst (λ (k : ℕ). ChangedBelow t (withSlot t k (withPieces (slotAt t k) pieces state)) c l (node d a b left right)
       (amendTop pieces state (node d a b left right))) at (amend-below l d a b left right h key pieces state ok)
 
   cut-root : Cut t t₁ c rootLink T (amendedTree key pieces state T)
   cut-root =
       cut-key key (amendTop pieces state) T rootLink (hangs-root w)
       (below-cut
-      (end-found key T d found (λ E. Hangs t c l E → Below t t₁ c l E (amendTop pieces state E)) here at-end))
+      (end-found key T d found (λ E. Hangs t c l E → ChangedBelow t t₁ c l E (amendTop pieces state E)) here at-end))
 
   pub amended-whole : Spelled (set t₁ changeWord n) c (amendedTree key pieces state T)
   amended-whole =

@@ -16,7 +16,7 @@ use Rattle.scope.specs.Drop.{withRecordOf}
 use Rattle.scope.specs.declared.slot.Slot.{Slot}
 use Rattle.scope.specs.declared.side.Link.{Link}
 use Rattle.spelling.proofs.Frame.{frame}
-use Rattle.bridge.specs.Below.{Hangs, Below}
+use Rattle.bridge.specs.Below.{Hangs, ChangedBelow}
 use Rattle.tree.specs.Seek.{amendTop}
 use Rattle.bridge.proofs.Links.Outside.{same-one, first-slot, steady, steady-root}
 use Rattle.spelling.proofs.Wrote.{slot-there, slot-head, slot-sized}
@@ -125,7 +125,7 @@ module _ {t : List ℕ} {c : ℕ} (l : Link) (d : Batch) (a b : ℕ) (left right
           right = rw e (son-stays (slotAt t x .right) right (λ k i q. omega (arith, total k, h .once k, same-one k x q)) (p .right));
         }
 
-    pub record-below : Below t t′ c l (node d a b left right) (node new a b left right)
+    pub record-below : ChangedBelow t t′ c l (node d a b left right) (node new a b left right)
     record-below =
         record {
           sized = slot-sized (h .sized) x y there (h .most);
@@ -140,11 +140,11 @@ module _ {t : List ℕ} {c : ℕ} (l : Link) (d : Batch) (a b : ℕ) (left right
 
   -- other pieces and another state
   pub amend-below : (key pieces state : ℕ) → recordOk key pieces state ≡ true
-      → Below t (withSlot t x (withPieces (slotAt t x) pieces state)) c l (node d a b left right)
+      → ChangedBelow t (withSlot t x (withPieces (slotAt t x) pieces state)) c l (node d a b left right)
       (amendTop pieces state (node d a b left right))
   unfolding amendTop Spells
   amend-below key pieces state ok =
-      subst (λ (e : Batch). Below t (withSlot t x (withPieces (slotAt t x) pieces state)) c l (node d a b left right)
+      subst (λ (e : Batch). ChangedBelow t (withSlot t x (withPieces (slotAt t x) pieces state)) c l (node d a b left right)
       (node (record { slot = e .slot; key = e .key; pieces = pieces; state = state }) a b left right))
       (sym (h .spells .holds))
       (record-below (withPieces (slotAt t x) pieces state) (other-key c (slotAt t x) here-fit key pieces state ok))

@@ -22,7 +22,7 @@ use Rattle.bridge.specs.Below.{Hangs, Cut}
 use Rattle.bridge.specs.Leads.{linkAlong}
 use Rattle.tree.specs.Seek.{seek, route, visits, endOf}
 use Rattle.tree.specs.Without.{withoutTop, withoutKey}
-use Rattle.bridge.specs.Planned.{Freed, Planned}
+use Rattle.bridge.specs.Planned.{Freed, DropDone}
 use Rattle.bridge.specs.Settled.{Spelled}
 use Rattle.bridge.proofs.Records.Seeks.{visits-high}
 use Rattle.spelling.proofs.Frame.{same-none}
@@ -64,11 +64,11 @@ module _ {t : List ℕ} {c : ℕ} (w : Whole t c) (key : ℕ) (d : Batch) (found
   high = omega (arith, room, end-high key T, height-size T, visits-high key T)
 
   -- the plan for the slot that was found
-  pub drop-planned : Planned t c (d .slot) l (visits key T) E
+  pub drop-planned : DropDone t c (d .slot) l (visits key T) E
   unfolding trueHeight
   drop-planned =
       end-found key T d found
-      (λ X. Hangs t c l X → trueHeight X ≤ suc (c - visits key T) → Planned t c (d .slot) l (visits key T) X)
+      (λ X. Hangs t c l X → trueHeight X ≤ suc (c - visits key T) → DropDone t c (d .slot) l (visits key T) X)
       (λ a b left right h i. planned l (visits key T) d a b left right h (omega arith))
       (hangs-along (route key T) rootLink T E (hangs-root w) (end-there key T)) high
 

@@ -20,7 +20,7 @@ use Rattle.tree.specs.Rewrite.{mk}
 use Rattle.tree.proofs.Firing.Sides.{times-mk}
 use Rattle.bridge.specs.Below.{Hangs, Cut}
 use Rattle.tree.specs.Without.{least, leastLink, withoutTop}
-use Rattle.bridge.specs.Planned.{Freed, lifts, moves, Planned}
+use Rattle.bridge.specs.Planned.{Freed, lifts, moves, DropDone}
 use Rattle.bridge.proofs.Links.Looks.{look}
 use Rattle.tree.proofs.Keys.Lowest.{least-times}
 use Rattle.bridge.proofs.Records.Relinks.{lifted-blank, lift-cut}
@@ -49,7 +49,7 @@ module _ {t : List ℕ} {c : ℕ} (l : Link) (s : Side) (d : Batch) (p : Pair) (
 -- the walk that found the slot has left enough visits to go on
 pub planned : {t : List ℕ} {c : ℕ} (l : Link) (seen : ℕ) (d : Batch) (a b : ℕ) (left right : Tree)
     → Hangs t c l (node d a b left right) → trueHeight right ≤ c - seen
-    → Planned t c (d .slot) l seen (node d a b left right)
+    → DropDone t c (d .slot) l seen (node d a b left right)
 unfolding Spells dropAt withoutTop times
 planned {t} {c} l seen d a b leaf right h high =
     let none : slotAt t (d .slot) .left ≡ 0 = rw (h .spells .holds) (h .spells .left) in

@@ -28,10 +28,10 @@ use Rattle.tree.proofs.Firing.Steps.{on-top}
 use Rattle.tree.proofs.Firing.Sides.{times-mk}
 use Rattle.scope.specs.Edits.{sonOn, Edit, edit, writes}
 use Rattle.bridge.specs.Edit.{edited, rooted}
-use Rattle.bridge.specs.Below.{Hangs, Below, Cut}
+use Rattle.bridge.specs.Below.{Hangs, ChangedBelow, Cut}
 use Rattle.bridge.specs.Leads.{linkAlong}
 use Rattle.tree.specs.Seek.{seek, route, endOf}
-use Rattle.bridge.specs.Settled.{Settled, Spelled}
+use Rattle.bridge.specs.Settled.{Resettled, Spelled}
 use Rattle.bridge.proofs.Links.Edited.{Rewritten, rewritten}
 use Rattle.bridge.proofs.Links.Looks.{look}
 use Rattle.bridge.proofs.Links.Outside.{same-one, first-slot}
@@ -140,7 +140,7 @@ module _ {t : List ℕ} {c : ℕ} (w : Whole t c) (key pieces state : ℕ) (ok :
       wrote .slots k first ∙ rw (ne-eqb k (l .holder) not-holder)
       (slot-here (w .sized) k (leafSlot key pieces state) first most)
 
-  leaf-below : Below t₀ t₁ c l leaf (node new 0 0 leaf leaf)
+  leaf-below : ChangedBelow t₀ t₁ c l leaf (node new 0 0 leaf leaf)
   unfolding Spells edited rooted
   leaf-below =
       record {
@@ -187,7 +187,7 @@ module _ {t : List ℕ} {c : ℕ} (w : Whole t c) (key pieces state : ℕ) (ok :
         | no ne ↦ omega (arith, grown-times new j T missing, same-none j k ne, w .sound .once j a b)
       ]
 
-  settled : Settled t₁ t₂ c (grown new T)
+  settled : Resettled t₁ t₂ c (grown new T)
   unfolding hung
   settled =
       recounted-settled (wrote .sized) (word t countWord + 1) (word t changeWord + 1)

@@ -27,7 +27,7 @@ use Rattle.tree.specs.Rewrite.{mk}
 use Rattle.tree.proofs.Firing.Sides.{times-mk}
 use Rattle.scope.specs.Edits.{sonOn, registerOn, edit, placeOf, writes}
 use Rattle.bridge.specs.Edit.{edited, rooted}
-use Rattle.bridge.specs.Below.{Hangs, relinked, emptied, Cut}
+use Rattle.bridge.specs.Below.{Hangs, slotRelinked, emptied, Cut}
 use Rattle.tree.specs.Without.{least, leastLink, withoutLeast}
 use Rattle.bridge.proofs.Links.Edited.{Rewritten, rewritten}
 use Rattle.bridge.proofs.Links.Looks.{Looks, look}
@@ -51,7 +51,7 @@ lifted-blank k l y z i j = slot-here (relinked-sized l y z) k zeroSlot i j
 -- what a link that takes y leaves
 record Taken (t t₁ : List ℕ) (c : ℕ) (l : Link) (y : ℕ) : Type 0 where
   sized : Sized t₁ c
-  slots : (k : ℕ) → 1 ≤ k → slotAt t₁ k ≡ cond (eqb y 0) (emptied l k (slotAt t k)) (relinked l y k (slotAt t k))
+  slots : (k : ℕ) → 1 ≤ k → slotAt t₁ k ≡ cond (eqb y 0) (emptied l k (slotAt t k)) (slotRelinked l y k (slotAt t k))
   root : word t₁ rootWord ≡ cond (eqb (l .holder) 0) y (word t rootWord)
   head : (i : ℕ) → 1 ≤ i → i < 4 → word t₁ i ≡ word t i
 

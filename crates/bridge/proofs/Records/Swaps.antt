@@ -13,7 +13,7 @@ use Rattle.scope.specs.declared.side.Side.the-variants.{Right}
 use Rattle.scope.specs.declared.side.Link.{Link}
 use Rattle.scope.specs.declared.slot.Slot.{Slot}
 use Rattle.spelling.proofs.Laws.{fit-right}
-use Rattle.bridge.specs.Below.{Hangs, Below, Cut}
+use Rattle.bridge.specs.Below.{Hangs, ChangedBelow, Cut}
 use Rattle.tree.specs.Seek.{beside}
 use Rattle.tree.specs.Without.{least, leastLink, withoutLeast, inSlot}
 use Rattle.bridge.proofs.Links.Outside.{same-one}
@@ -22,7 +22,7 @@ use Rattle.bridge.proofs.Links.Above.{hangs-down, above-cut, below-cut}
 use Rattle.tree.proofs.Keys.Lowest.{least-times}
 use Rattle.bridge.proofs.Records.Amends.{top-slot, here-fit, record-ok, record-below}
 use Rattle.bridge.proofs.Records.Relinks.{lifted-blank, least-cut}
-use Rattle.bridge.proofs.Links.Follows.{hangs-after, below-then, Stands, least-stands}
+use Rattle.bridge.proofs.Links.Follows.{hangs-after, below-then, LeastStands, least-stands}
 
 -- with two sons: the leftmost record on the right goes into the slot, and is lifted out of its own
 module _ {t : List ℕ} {c : ℕ} (l : Link) (d : Batch) (a b : ℕ) (L : Tree) (g : Batch) (u v : ℕ) (p q : Tree)
@@ -53,7 +53,7 @@ module _ {t : List ℕ} {c : ℕ} (l : Link) (d : Batch) (a b : ℕ) (L : Tree) 
   unfolding Spells
   there = h .spells .there
 
-  stands : Stands t c m
+  stands : LeastStands t c m
   stands = least-stands t c (slotAt t x .right) g u v p q (fit-right c (slotAt t x) (here-fit l d a b L R h) .0) right
 
   -- the record is written
@@ -74,7 +74,7 @@ module _ {t : List ℕ} {c : ℕ} (l : Link) (d : Batch) (a b : ℕ) (L : Tree) 
       ≡ record { slot = x; key = slotAt t k .key; pieces = slotAt t k .pieces; state = slotAt t k .state }
   moved = ap (inSlot x) (stands .holds)
 
-  first : Below t t₀ c l (node d a b L R) (node (inSlot x m) a b L R)
+  first : ChangedBelow t t₀ c l (node d a b L R) (node (inSlot x m) a b L R)
   first = rw moved (record-below l d a b L R h (slotAt t k) (record-ok c (slotAt t k) (stands .fit)))
 
   keeps : (j : ℕ) → times j (node (inSlot x m) a b L R) ≡ times j (node d a b L R)
@@ -101,10 +101,10 @@ module _ {t : List ℕ} {c : ℕ} (l : Link) (d : Batch) (a b : ℕ) (L : Tree) 
       subst (λ (j : ℕ). Cut t₀ t₁ c (on j) R R′) is
       (subst (λ (z : Slot). Cut t₀ (lifted t₀ k (leastLink (on x) g p) (z .right)) c (on x) R R′) same-least cut)
 
-  second : Below t₀ t₁ c l (node (inSlot x m) a b L R) (node (inSlot x m) a (beside b R′) L R′)
+  second : ChangedBelow t₀ t₁ c l (node (inSlot x m) a b L R) (node (inSlot x m) a (beside b R′) L R′)
   second = above-cut l Right (inSlot x m) (pair b a) R L h₀ R′ least-goes
 
-  swapped : Below t t₁ c l (node d a b L R) (node (inSlot x m) a (beside b R′) L R′)
+  swapped : ChangedBelow t t₁ c l (node d a b L R) (node (inSlot x m) a (beside b R′) L R′)
   swapped = below-then first keeps second
 
   -- slot by slot

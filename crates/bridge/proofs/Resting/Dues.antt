@@ -6,7 +6,7 @@ use mathlib.Core.List.{List}
 use native.Mathlib.Omega.{arith}
 use lib.Dec.{leb, eqb}
 use borrow.Author.Tests.{eqb-false, le-leb, ne-eqb}
-use Rattle.scope.proofs.Bools.{and-l, by-bool}
+use Rattle.scope.proofs.Bools.{and-l, by-bool, never}
 use Rattle.scope.specs.Numbers.{other, mostHeight}
 use Rattle.scope.specs.Table.{word, slotAt, son, linkAt}
 use Rattle.scope.specs.Fit.{fitSlot}
@@ -24,7 +24,7 @@ use Rattle.spelling.proofs.Laws.{fits, fit-son}
 use Rattle.bridge.proofs.Firing.Along.{some-state}
 
 -- the rule is due at the slot in the link, and this is its firing there
-pub record Fires (t : List ℕ) (c : ℕ) (r : Rule) (l : Link) : Type 0 where
+pub record FiresDue (t : List ℕ) (c : ℕ) (r : Rule) (l : Link) : Type 0 where
   pub first : 1 ≤ word t (linkAt l)
   pub due : dueAt t c r (word t (linkAt l)) ≡ true
   pub is : aim t c r l ≡ Fire r (nodesAt t r l (word t (linkAt l)))
@@ -35,7 +35,7 @@ all-five p q r s t = rw (p, q, r, s, t) refl
 module _ (q : Rule) (n : Nodes) where
   -- a refusal is no firing
   refuses {ℓ} : {X : Type ℓ} {why : Refusal} → Refuse why ≡ Fire q n → X
-  refuses e = let z : _≡_ {A = ℕ} 0 1 = cc in absurd (omega arith)
+  refuses e = never cc
 
   -- a slot that a firing took is there and fit
   taken : {X : Type 0} (t : List ℕ) (c k a b e : ℕ) (f : Slot → Firing) → onTaken (takeOf t c k a b e) f ≡ Fire q n
@@ -143,7 +143,7 @@ module _ (q : Rule) (n : Nodes) where
         all-five state at-u at-w (s .judged .guard) (s .judged .low)
 
     -- A FIRING THAT COMES OUT is that of a due rule, with its own nodes
-    pub fires-so : aim t c r l ≡ Fire q n → Fires t c r l
+    pub fires-so : aim t c r l ≡ Fire q n → FiresDue t c r l
     fires-so h =
         let s = aimed-so h in
         record { first = s .v-first; due = due-so s; is = h ∙ s .judged .is }

@@ -39,7 +39,7 @@ use Rattle.bridge.proofs.Firing.Along.{hangs-along}
 use Rattle.bridge.proofs.Firing.Fires.{hangs-root, same-way}
 use Rattle.bridge.proofs.Links.Held.{way-to}
 use Rattle.bridge.proofs.Resting.Linked.{link-to}
-use Rattle.bridge.proofs.Resting.Dues.{Fires, fires-so}
+use Rattle.bridge.proofs.Resting.Dues.{FiresDue, fires-so}
 
 -- the nodes of rule r at slot v are there and pass a test
 pub record Meets (test : Test) (t : List ℕ) (c : ℕ) (r : Rule) (v : ℕ) : Type 0 where
@@ -146,12 +146,12 @@ module _ {t : List ℕ} {c : ℕ} (w : Whole t c) (r : Rule) where
       let m = due-meets e in
       let o = meets-there (within mostHeight) v i j m in
       let a = rw (o .2) at (same-way w r (linkTo t c v) (o .0)) in
-      let f : Fires t c r (linkTo t c v) = fires-out t _ _ _ _ a (λ q n x. fires-so q n t c r (linkTo t c v) x) in
+      let f : FiresDue t c r (linkTo t c v) = fires-out t _ _ _ _ a (λ q n x. fires-so q n t c r (linkTo t c v) x) in
       rw (link-to w v i j (v-some m) .1) at (f .is)
 
   -- AND WHAT IS ACCEPTED ON THE TREE is due at the slot there
   pub accepts-due : (way : List Side) (T′ : Tree) → acceptAt way r T ≡ some T′
-      → Fires t c r (linkAlong t way rootLink) × (word t (linkAt (linkAlong t way rootLink)) ≤ c)
+      → FiresDue t c r (linkAlong t way rootLink) × (word t (linkAt (linkAlong t way rootLink)) ≤ c)
   accepts-due way T′ e =
       let p = placed (within mostHeight) r way T T′ e in
       let l = linkAlong t way rootLink in

@@ -155,8 +155,8 @@ numbered-on Even Right = named Even Right 6 (omega arith) (omega arith) refl
 numbered-on Double Left = named Double Left 7 (omega arith) (omega arith) refl
 numbered-on Double Right = named Double Right 8 (omega arith) (omega arith) refl
 
-pub numbered : (r : Rule) → Numbered r
-numbered r = numbered-on (r .kind) (r .side)
+pub rule-numbered : (r : Rule) → Numbered r
+rule-numbered r = numbered-on (r .kind) (r .side)
 
 -- where a search finds nothing, no test passes
 module _ (test : ℕ → ℕ → Bool) where
@@ -194,6 +194,6 @@ quiet-tree {t} {c} w e way r =
     none-there (fireAt way r (w .sound .tree))
     (λ T′ q.
     let h = holds-there rootLink (w .sound .tree) T′ (hangs-root w) way r q in
-    let n = numbered r in
+    let n = rule-numbered r in
     let f = no-slot (passes false t c) c 1 e (h .slot) (n .number) (h .first) (omega (arith, h .most)) (n .first) (n .most) in
     neither (h .holds) (rw (n .is) at f))

@@ -21,7 +21,7 @@ use Rattle.tree.proofs.Firing.Steps.{no-tree, none-there}
 use Rattle.tree.proofs.Rest.Height.{height-size}
 use Rattle.tree.proofs.Rest.Quiet.{stuck-quiet}
 use Rattle.bridge.specs.Leads.{linkAlong}
-use Rattle.bridge.proofs.Resting.Quiets.{relaxed, numbered, no-slot}
+use Rattle.bridge.proofs.Resting.Quiets.{relaxed, rule-numbered, no-slot}
 use Rattle.bridge.proofs.Resting.Searches.{slots-none, known-rule}
 use Rattle.bridge.proofs.Resting.Meets.{holds-meets, meets-there, accepts-due}
 
@@ -64,7 +64,7 @@ module _ {t : List ℕ} {c : ℕ} (w : Whole t c) where
       stuck-quiet T (relaxed t c (word t rootWord) T (w .sound .reached)) low
       (λ way r. none-there (acceptAt way r T) (λ T′ o.
       let f = accepts-due w r way T′ o in
-      let n = numbered r in
+      let n = rule-numbered r in
       let x = word t (linkAt (linkAlong t way rootLink)) in
       let z = no-slot (passes true t c) c 1 (ap nothing e) x (n .number) (f .0 .first) (omega (arith, f .1))
       (n .first) (n .most) in

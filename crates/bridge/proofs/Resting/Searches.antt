@@ -7,7 +7,7 @@ use native.Mathlib.Omega.{arith}
 use native.Mathlib.Decide.{decLe, ℕ-discrete}
 use lib.Dec.{eqb}
 use borrow.Author.Tests.{ne-eqb}
-use Rattle.scope.proofs.Bools.{by-bool, neither}
+use Rattle.scope.proofs.Bools.{by-bool, neither, never}
 use Rattle.scope.specs.Numbers.{ruleOf}
 use Rattle.scope.specs.Tidy.{byRule, passes, rulesFrom, slotsFrom, nextOf}
 use Rattle.scope.specs.declared.rule.Rule.{Rule}
@@ -47,7 +47,7 @@ module _ (test : ℕ → ℕ → Bool) where
 
   slots-found : (left k x y : ℕ) → slotsFrom test left k ≡ At x y → (k ≤ x) × (x < k + left) × (test x y ≡ true)
   unfolding slotsFrom
-  slots-found zero k x y e = let z : _≡_ {A = ℕ} 0 1 = cc in absurd (omega arith)
+  slots-found zero k x y e = never cc
   slots-found (suc left) k x y e =
       rules-found 8 k 1 (slotsFrom test left (k + 1)) x y e
       (λ q p. (omega arith, omega arith, p))
@@ -118,9 +118,9 @@ rule-number n r e =
     elim (decLe 1 n) [
       | yes a ↦ elim (decLe n 8) [
         | yes b ↦ (a, b)
-        | no b ↦ let q = no-number n (λ i p q z. omega arith) in let z : _≡_ {A = ℕ} 0 1 = cc in absurd (omega arith)
+        | no b ↦ let q = no-number n (λ i p q z. omega arith) in never cc
       ]
-      | no a ↦ let q = no-number n (λ i p q z. omega arith) in let z : _≡_ {A = ℕ} 0 1 = cc in absurd (omega arith)
+      | no a ↦ let q = no-number n (λ i p q z. omega arith) in never cc
     ]
 
 -- AND NO OTHER THAT IS DUE COMES BEFORE IT

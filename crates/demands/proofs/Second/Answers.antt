@@ -4,10 +4,9 @@ use mathlib.Core.Path.{_≡_, refl, sym, _∙_, ap}
 use mathlib.Core.Bool.{true, cond, not}
 use mathlib.Core.Option.{Option, none, some}
 use mathlib.Core.List.{List}
-use native.Mathlib.Omega.{arith}
 use lib.ListN.{length, length-map}
 use lib.Dec.{eqb, ltb, leb}
-use Rattle.scope.proofs.Bools.{by-bool}
+use Rattle.scope.proofs.Bools.{by-bool, never}
 use Rattle.scope.specs.Numbers.{rootLink}
 use Rattle.scope.specs.Table.{word, rootWord, changeWord, slotAt}
 use Rattle.scope.specs.Tree.{Batch, Tree, leaf, node, inOrder}
@@ -32,7 +31,7 @@ use Rattle.ledger.proofs.Entries.{mapEntry, seek-lookup, total-sum}
 pub seek-slot : (t : List ℕ) (c key x : ℕ) (T : Tree) → Spells t c x T → (d : Batch) → seek key T ≡ some d
     → d ≡ batchAt t (d .slot)
 unfolding Spells seek
-seek-slot t c key x leaf p d e = let z : _≡_ {A = ℕ} 0 1 = cc in absurd (omega arith)
+seek-slot t c key x leaf p d e = never cc
 seek-slot t c key x (node b h g l r) p d e =
     by-bool (eqb key (b .key))
     (λ q. let same : b ≡ d = cc (simp q at e) in

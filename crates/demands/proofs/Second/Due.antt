@@ -7,7 +7,7 @@ use native.Mathlib.Omega.{arith}
 use native.Mathlib.Decide.{ℕ-discrete}
 use lib.Dec.{eqb, ltb}
 use borrow.Author.Tests.{eqb-true, ne-eqb, le-ltb}
-use Rattle.scope.proofs.Bools.{by-bool}
+use Rattle.scope.proofs.Bools.{by-bool, never}
 use Rattle.scope.specs.Numbers.{rootLink, sideOf, linkOf, knownLink, ruleOf}
 use Rattle.scope.specs.Table.{word, linkAt}
 use Rattle.scope.specs.Fire.{aim, aimed, onRule, onLink, firePlan, fired, fireOf}
@@ -32,7 +32,7 @@ use Rattle.bridge.proofs.Firing.Fires.{hangs-root}
 use Rattle.bridge.proofs.Firing.Calls.{sized-slots, link-in}
 use Rattle.bridge.proofs.Links.Held.{way-to, one-link}
 use Rattle.bridge.proofs.Resting.Linked.{link-to}
-use Rattle.bridge.proofs.Resting.Dues.{Fires, fires-so}
+use Rattle.bridge.proofs.Resting.Dues.{FiresDue, fires-so}
 use Rattle.bridge.proofs.Resting.Meets.{v-some, due-meets}
 use Rattle.bridge.specs.Due.{NotAfter}
 use Rattle.bridge.proofs.Resting.Searches.{next-first}
@@ -48,14 +48,14 @@ side-numbers n s e =
     (λ p. let q = simp p at e in let z = eqb-true n 0 p in cc)
     (λ p. by-bool (eqb n 1)
     (λ h. let q = simp (p, h) at e in let z = eqb-true n 1 h in cc)
-    (λ h. let q = simp (p, h) at e in let z : _≡_ {A = ℕ} 0 1 = cc in absurd (omega arith)))
+    (λ h. let q = simp (p, h) at e in never cc))
 
 known-numbers : (holder n : ℕ) (i : SideIs) (l : Link) → sideOf n ≡ i → knownLink holder n i ≡ link-is.Known l
     → (holder ≡ l .holder) × (n ≡ sideNumber (l .side))
-known-numbers holder n side-is.Unknown l e q = let z : _≡_ {A = ℕ} 0 1 = cc in absurd (omega arith)
+known-numbers holder n side-is.Unknown l e q = never cc
 known-numbers holder n (side-is.Known s) l e q =
     by-bool (eqb holder 0 && not (eqb n 0))
-    (λ p. let x = simp p at q in let z : _≡_ {A = ℕ} 0 1 = cc in absurd (omega arith))
+    (λ p. let x = simp p at q in never cc)
     (λ p. let x = simp p at q in
     let is : record { holder = holder; side = s } ≡ l = cc in
     rw (← is) (refl, sym (side-numbers n s e)))
@@ -65,7 +65,7 @@ link-numbers : (c holder side : ℕ) (l : Link) → linkOf c holder side ≡ lin
 unfolding linkOf
 link-numbers c holder side l e =
     by-bool (ltb c holder)
-    (λ p. let x = simp p at e in let z : _≡_ {A = ℕ} 0 1 = cc in absurd (omega arith))
+    (λ p. let x = simp p at e in never cc)
     (λ p. known-numbers holder side (sideOf side) l refl (simp p at e))
 
 -- a link of a table has its numbers
@@ -90,7 +90,7 @@ link-known c l h r =
 module _ {t : List ℕ} {c : ℕ} (w : Whole t c) where
   -- the slot at the link, and that its link is found
   at-link : (x : Trial) (r : Rule) (l : Link) → ruleOf (x .rule) ≡ rule-is.Known r
-      → linkOf c (x .holder) (x .side) ≡ link-is.Known l → Fires t c r l → DueTrial t c x
+      → linkOf c (x .holder) (x .side) ≡ link-is.Known l → FiresDue t c r l → DueTrial t c x
   at-link x r l a b f =
       let v = word t (linkAt l) in
       let i = link-in c (x .holder) (x .side) l b in
@@ -105,7 +105,7 @@ module _ {t : List ℕ} {c : ℕ} (w : Whole t c) where
         is = rw same (λ k. record { rule = x .rule; holder = n .0 k; side = n .1 k });
       }
 
-  aims-out : (r : Rule) (l : Link) (f : Firing) → aim t c r l ≡ f → fired t f .answer .code ≡ 0 → Fires t c r l
+  aims-out : (r : Rule) (l : Link) (f : Firing) → aim t c r l ≡ f → fired t f .answer .code ≡ 0 → FiresDue t c r l
   unfolding fired
   aims-out r l (Refuse why) e z = absurd (some-code why z)
   aims-out r l (Fire q n) e z = fires-so q n t c r l e

@@ -7,6 +7,7 @@ use native.Mathlib.Omega.{arith}
 use native.Mathlib.Decide.{decLe, ℕ-discrete}
 use lib.ListN.{length}
 use borrow.Author.Tests.{eq-eqb, ne-eqb, eqb-true}
+use Rattle.scope.proofs.Bools.{never}
 use Rattle.scope.specs.Table.{word, rootWord, countWord, slotAt}
 use Rattle.scope.specs.Tree.{Batch, Tree, leaf, node, times, Ordered}
 use Rattle.scope.specs.Sound.{Spells, batchAt, treeIn}
@@ -23,7 +24,7 @@ use Rattle.demands.proofs.Open.{own-tree}
 
 -- a record is not both there and not there
 not-none : {X : Type 0} {e : Entry} → none ≡ some e → X
-not-none q = let z : _≡_ {A = ℕ} 0 1 = cc in absurd (omega arith)
+not-none q = never cc
 
 -- what stands in a slot of an ordered tree is found by its key
 module _ (t : List ℕ) (c k : ℕ) where

@@ -5,6 +5,7 @@ use mathlib.Core.Option.{Option, none, some}
 use mathlib.Core.Bool.{true}
 use mathlib.Core.List.{List, [], _∷_}
 use native.Mathlib.Omega.{arith}
+use Rattle.scope.proofs.Bools.{never}
 use Rattle.scope.specs.Numbers.{ruleOf, linkOf, mostHeight}
 use Rattle.scope.specs.Table.{word, changeWord}
 use Rattle.scope.specs.Tree.{Tree}
@@ -160,9 +161,9 @@ module _ {t : List ℕ} {c : ℕ} (w : Whole t c) (x : Trial) where
       → d ≡ fired t (onRule a (λ r. onLink b (λ l. aimed t c r l))) → Case t c x d
   unfolding fired
   named-case rule-is.Unknown b p q e =
-      not-named (λ n. let y = sym p ∙ n .is-rule in let z : _≡_ {A = ℕ} 0 1 = cc in omega arith) e
+      not-named (λ n. let y = sym p ∙ n .is-rule in never cc) e
   named-case (rule-is.Known r) link-is.Unknown p q e =
-      not-named (λ n. let y = sym q ∙ n .is-link in let z : _≡_ {A = ℕ} 0 1 = cc in omega arith) e
+      not-named (λ n. let y = sym q ∙ n .is-link in never cc) e
   named-case (rule-is.Known r) (link-is.Known l) p q e =
       link-case (record { rule = r; link = l; is-rule = p; is-link = q }) (aimed t c r l)
       (fire-ends (own-tree w) r l (link-in c (x .holder) (x .side) l q)) e

@@ -17,7 +17,7 @@ use Rattle.scope.specs.Sound.{Spells, Sound}
 use Rattle.tree.specs.Shape.{Balanced}
 use Rattle.tree.proofs.Rest.Height.{height-size}
 use Rattle.tree.proofs.Shown.Marked.{batch}
-use Rattle.tree.proofs.Shown.Sharp.{Numbered}
+use Rattle.tree.proofs.Shown.Sharp.{SlotsNumbered}
 use Rattle.spelling.proofs.Slots.{words-slot}
 use Rattle.spelling.proofs.Fits.{link-on}
 use Rattle.spelling.proofs.Frame.{same-none}
@@ -52,13 +52,13 @@ slot-after pre ws rest k e h =
     (λ f i. let at : base (suc k) + f ≡ length pre + f = omega arith in
     rw at (getD-append-add pre (ws ++ rest) f 0 ∙ List·getD-append ws rest 0 f (omega arith)))
 
-top-most : (k c : ℕ) (T : Tree) → Numbered k T → k + size T ≤ c → top T ≤ c
+top-most : (k c : ℕ) (T : Tree) → SlotsNumbered k T → k + size T ≤ c → top T ≤ c
 unfolding size
 top-most k c leaf n h = omega arith
 top-most k c (node d a b l r) n h = omega (arith, ap (λ (e : Batch). e .slot) (n .0))
 
 -- a link to a numbered tree beside its true height
-link-fits : (k c : ℕ) (T : Tree) → c ≤ mostSlots → Numbered k T → k + size T ≤ c → linkOk c (top T) (trueHeight T) ≡ true
+link-fits : (k c : ℕ) (T : Tree) → c ≤ mostSlots → SlotsNumbered k T → k + size T ≤ c → linkOk c (top T) (trueHeight T) ≡ true
 unfolding size trueHeight
 link-fits k c leaf m n h = unfold linkOk in rw (le-leb 0 c (omega arith)) refl
 link-fits k c (node d a b l r) m n h =
@@ -84,13 +84,13 @@ top-spells t c d a b l r is fit i p q =
 
 -- THE WORDS OF A NUMBERED TREE SPELL IT
 module _ (c : ℕ) (m : c ≤ mostSlots) where
-  node-fits : (k a b : ℕ) (l r : Tree) → Numbered k l → Numbered (suc (k + size l)) r → a ≡ trueHeight l → b ≡ trueHeight r
+  node-fits : (k a b : ℕ) (l r : Tree) → SlotsNumbered k l → SlotsNumbered (suc (k + size l)) r → a ≡ trueHeight l → b ≡ trueHeight r
       → suc (k + size l) + size r ≤ c → fitSlot c (slotOf (λ f. getD (eight (batch (suc (k + size l))) a b l r) f 0)) ≡ true
   unfolding fitSlot stateOk piecesOk tailOk
   node-fits k a b l r n o ea eb h =
       rw (ea, eb, link-fits k c l m n (omega arith), link-fits (suc (k + size l)) c r m o h, ne-eqb (suc (k + size l)) 0 (λ q. omega arith)) refl
 
-  spells : (T : Tree) (k : ℕ) (pre post : List ℕ) → length pre ≡ tableWords k → Numbered k T → Balanced T → k + size T ≤ c
+  spells : (T : Tree) (k : ℕ) (pre post : List ℕ) → length pre ≡ tableWords k → SlotsNumbered k T → Balanced T → k + size T ≤ c
       → Spells (pre ++ (flat T ++ post)) c (top T) T
   unfolding flat size
   spells leaf k pre post e n i h = unfold Spells in refl
@@ -117,10 +117,10 @@ module _ (c : ℕ) (m : c ≤ mostSlots) where
       (rw to-right (spells r (suc mid) here post long-here (n .2) (i .inFar) (omega arith)))
 
 -- how often a numbered tree has a slot: once where it lies between its first and its last, and else never
-slot-is : (k : ℕ) (d : Batch) (a b : ℕ) (l r : Tree) → Numbered k (node d a b l r) → d .slot ≡ suc (k + size l)
+slot-is : (k : ℕ) (d : Batch) (a b : ℕ) (l r : Tree) → SlotsNumbered k (node d a b l r) → d .slot ≡ suc (k + size l)
 slot-is k d a b l r n = ap (λ (x : Batch). x .slot) (n .0)
 
-before-none : (T : Tree) (k j : ℕ) → Numbered k T → j ≤ k → times j T ≡ 0
+before-none : (T : Tree) (k j : ℕ) → SlotsNumbered k T → j ≤ k → times j T ≡ 0
 unfolding times
 before-none leaf k j n h = refl
 before-none (node d a b l r) k j n h =
@@ -131,7 +131,7 @@ before-none (node d a b l r) k j n h =
       before-none r (suc (k + size l)) j (n .2) (omega arith),
     )
 
-after-none : (T : Tree) (k j : ℕ) → Numbered k T → k + size T < j → times j T ≡ 0
+after-none : (T : Tree) (k j : ℕ) → SlotsNumbered k T → k + size T < j → times j T ≡ 0
 unfolding times size
 after-none leaf k j n h = refl
 after-none (node d a b l r) k j n h =
@@ -142,7 +142,7 @@ after-none (node d a b l r) k j n h =
       after-none r (suc (k + size l)) j (n .2) (omega arith),
     )
 
-between-once : (T : Tree) (k j : ℕ) → Numbered k T → k < j → j ≤ k + size T → times j T ≡ 1
+between-once : (T : Tree) (k j : ℕ) → SlotsNumbered k T → k < j → j ≤ k + size T → times j T ≡ 1
 unfolding times size
 between-once leaf k j n g h = absurd (omega arith)
 between-once (node d a b l r) k j n g h =
@@ -177,7 +177,7 @@ pub record Filled (T : Tree) : Type 0 where
   pub tree : whole .sound .tree ≡ T
 
 -- A NUMBERED, ORDERED AND BALANCED TREE FILLS A SOUND TABLE
-module _ (T : Tree) (n : Numbered 0 T) (o : Ordered T) (i : Balanced T) (first : 1 ≤ size T) (m : size T ≤ mostSlots) where
+module _ (T : Tree) (n : SlotsNumbered 0 T) (o : Ordered T) (i : Balanced T) (first : 1 ≤ size T) (m : size T ≤ mostSlots) where
   abbrev full : List ℕ
   full = (top T ∷ size T ∷ 0 ∷ 0 ∷ []) ++ (flat T ++ [])
 

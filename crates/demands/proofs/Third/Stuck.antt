@@ -19,7 +19,7 @@ use Rattle.bridge.specs.Leads.{sideNumber, linkAlong}
 use Rattle.bridge.proofs.Firing.Along.{hangs-along}
 use Rattle.bridge.proofs.Firing.Fires.{hangs-root}
 use Rattle.bridge.proofs.Links.Held.{root-only}
-use Rattle.bridge.proofs.Resting.Quiets.{relaxed, numbered}
+use Rattle.bridge.proofs.Resting.Quiets.{relaxed, rule-numbered}
 use Rattle.demands.specs.Fires.{Trial, Accepted}
 use Rattle.demands.specs.Firing.{NamedPlace}
 use Rattle.demands.proofs.Open.{own-tree, tree-small}
@@ -39,7 +39,7 @@ some-accepted {t} {c} w way r T′ e =
     let l = linkAlong t (a .way) rootLink in
     let h = hangs-along (a .way) rootLink T (p .from) (hangs-root v) (p .there) in
     let known = link-known c l (h .holder) (root-only t c (a .way) T (p .from) (v .sound .reached) (p .there)) in
-    let n = numbered (a .rule) in
+    let n = rule-numbered (a .rule) in
     let x : Trial = record { rule = n .number; holder = l .holder; side = sideNumber (l .side) } in
     let place : NamedPlace t c x = record {
       named = record { rule = a .rule; link = l; is-rule = n .is; is-link = known };

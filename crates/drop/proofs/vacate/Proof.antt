@@ -4,8 +4,8 @@ use borrow.Author.Needs.{needs}
 use Rattle.drop.proofs.vacate.Statement.{statement}
 use Rattle.drop.proofs.vacate.Tie as tie
 
-blank-requires : tie.Need-blank-requires
-blank-requires c κs = search needs
+zeros-requires : tie.Need-zeros-requires
+zeros-requires c κs = search needs
 
 put-slot-requires : tie.Need-put-slot-requires
 put-slot-requires c κs = search needs
@@ -22,8 +22,8 @@ same-length c = search needs
 returns : tie.Need-returns
 returns c =
     let b = c .before .before .before .before .before .before in
-    simp (sym (b .before .blank .ensures), sym (b .put-slot .ensures))
+    simp (sym (b .before .zeros .ensures), sym (b .put-slot .ensures))
     (c .before .before .settle .ensures)
 
 pub vacate-spec : {M : Type 1} → statement M
-vacate-spec = tie.close (tie.spec blank-requires put-slot-requires sub-settle settle-requires same-length returns)
+vacate-spec = tie.close (tie.spec zeros-requires put-slot-requires sub-settle settle-requires same-length returns)

@@ -4,7 +4,7 @@ use native.Mathlib.Omega.{arith}
 use lib.Dec.{eqb}
 use borrow.Author.Tests.{eqb-false, not-true}
 use Rattle.scope.specs.Sums.{rankAnswer}
-use Rattle.spelling.proofs.Opened.{opened, asked, headed}
+use Rattle.spelling.proofs.Opened.{opened, was-asked, headed}
 use borrow.Author.Needs.{needs}
 use Rattle.rank.proofs.rank.Statement.{statement}
 use Rattle.rank.proofs.rank.Tie as tie
@@ -27,7 +27,7 @@ wide-requires c κs = search needs
 rank-in-requires : tie.Need-rank-in-requires
 rank-in-requires c κs =
     let r = c .before .before .before .before .before .before .args .r in
-    let some = eqb-false r 0 (not-true (eqb r 0) (asked _ _ _
+    let some = eqb-false r 0 (not-true (eqb r 0) (was-asked _ _ _
     (c .before .before .before .before .enter-sound .ensures) (c .before .before .c .given .1))) in (
       omega (arith, c .wide .ensures),
       opened _ _ _ (c .before .before .before .before .enter-sound .ensures)

@@ -12,7 +12,7 @@ use Rattle.scope.proofs.Bools.{and-r}
 use Rattle.scope.specs.declared.side.Side.{Side}
 use Rattle.scope.specs.declared.rule.Kind.{Kind}
 use Rattle.scope.specs.declared.rule.Rule.{Rule}
-use Rattle.tree.specs.Rewrite.{Test, rewriteAt, within, Attempt, attempted, kept, after}
+use Rattle.tree.specs.Rewrite.{Test, rewriteAt, within, Attempt, attempted, orSame, afterAttempts}
 use Rattle.tree.specs.Step.{Step, propagates, leans, evens, doubles}
 use Rattle.tree.specs.Shape.{Beside, Relaxed, Low}
 use Rattle.tree.proofs.Firing.Steps.{anywhere}
@@ -58,16 +58,16 @@ low-kept limit way r T T′ e =
     (λ s k T T′ x _ a h. h) (λ s d x near near′ far a h. h) way r T T′ e .each
 
 -- and over any list of attempts
-kept-keeps : (o : Option Tree) (T : Tree) → ((T′ : Tree) → o ≡ some T′ → Keeps T T′) → Keeps T (kept o T)
+kept-keeps : (o : Option Tree) (T : Tree) → ((T′ : Tree) → o ≡ some T′ → Keeps T T′) → Keeps T (orSame o T)
 kept-keeps none T f = record { records = refl; relaxed = λ h. h }
 kept-keeps (some T′) T f = f T′ refl
 
-pub after-keeps : (xs : List Attempt) (T : Tree) → Keeps T (after xs T)
-unfolding after
+pub after-keeps : (xs : List Attempt) (T : Tree) → Keeps T (afterAttempts xs T)
+unfolding afterAttempts
 after-keeps [] T = record { records = refl; relaxed = λ h. h }
 after-keeps (x ∷ xs) T =
     let first = kept-keeps (attempted x T) T (keeps guard (x .way) (x .rule) T) in
-    let rest = after-keeps xs (kept (attempted x T) T) in
+    let rest = after-keeps xs (orSame (attempted x T) T) in
     record { records = rest .records ∙ first .records; relaxed = λ h. rest .relaxed (first .relaxed h) }
 
 -- what the records in order decide: how often a slot stands in the tree, and how many nodes there are

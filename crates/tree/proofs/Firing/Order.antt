@@ -24,12 +24,12 @@ module _ (P : Batch → Type 0) where
   all-join (x ∷ xs) ys h k = (h .0, all-join xs ys (h .1) k)
 
   -- a statement on trees that says P of every record
-  record Says (F : Tree → Type 0) : Type 0 where
+  record SaysOf (F : Tree → Type 0) : Type 0 where
     none : F leaf
     out : (d : Batch) (a b : ℕ) (l r : Tree) → F (node d a b l r) → P d × F l × F r
     back : (d : Batch) (a b : ℕ) (l r : Tree) → P d × F l × F r → F (node d a b l r)
 
-  module _ (F : Tree → Type 0) (says : Says F) where
+  module _ (F : Tree → Type 0) (says : SaysOf F) where
     to-list : (T : Tree) → F T → All P (inOrder T)
     unfolding inOrder
     to-list leaf h = tt
@@ -54,11 +54,11 @@ Before k e = e .key < k
 abbrev After : ℕ → Batch → Type 0
 After k e = k < e .key
 
-below-says : (k : ℕ) → Says (Before k) (Below k)
+below-says : (k : ℕ) → SaysOf (Before k) (Below k)
 unfolding Below
 below-says k = record { none = tt; out = λ d a b l r h. h; back = λ d a b l r h. h }
 
-above-says : (k : ℕ) → Says (After k) (Above k)
+above-says : (k : ℕ) → SaysOf (After k) (Above k)
 unfolding Above
 above-says k = record { none = tt; out = λ d a b l r h. h; back = λ d a b l r h. h }
 

@@ -12,7 +12,7 @@ use Rattle.scope.specs.declared.rule.Pair.{Pair}
 use Rattle.scope.specs.declared.side.Side.{Side}
 use Rattle.scope.specs.declared.side.Side.the-variants.{Left, Right}
 use Rattle.scope.specs.declared.rule.Rule.{Rule}
-use Rattle.tree.specs.Rewrite.{mk, hung, Test, rewriteTop, rewriteAt}
+use Rattle.tree.specs.Rewrite.{mk, overNear, Test, rewriteTop, rewriteAt}
 use Rattle.tree.specs.Place.{subtree, plug}
 use Rattle.tree.proofs.Firing.Steps.{no-tree, on-top, top-is, steps, along, inside}
 use Rattle.tree.proofs.Firing.Sides.{times-mk}
@@ -23,7 +23,7 @@ module _ (s : Side) (d : Batch) (x : Pair) (near far : Tree) (way : List Side) w
   unfolding subtree
   subtree-mk = simp top-is
 
-  pub plug-mk : (S : Tree) → plug (s ∷ way) S (mk s d x near far) ≡ hung s d x (plug way S near) far
+  pub plug-mk : (S : Tree) → plug (s ∷ way) S (mk s d x near far) ≡ overNear s d x (plug way S near) far
   unfolding plug
   plug-mk S = simp top-is
 

@@ -13,12 +13,12 @@ use Rattle.tree.specs.Rewrite.{mk}
 use Rattle.tree.specs.Shape.{Sides, Each, Beside}
 
 -- the records on the near side, a record, and those on the far side, from left to right
-abbrev pub between : Side → List Batch → Batch → List Batch → List Batch
-between Left near d far = near ++ (d ∷ far)
-between Right near d far = far ++ (d ∷ near)
+abbrev pub inBetween : Side → List Batch → Batch → List Batch → List Batch
+inBetween Left near d far = near ++ (d ∷ far)
+inBetween Right near d far = far ++ (d ∷ near)
 
 pub between-turns : (s : Side) (du dv : Batch) (m n c : List Batch)
-    → between s m du (between s n dv c) ≡ between s (between s m du n) dv c
+    → inBetween s m du (inBetween s n dv c) ≡ inBetween s (inBetween s m du n) dv c
 between-turns Left du dv m n c = simp append-assoc
 between-turns Right du dv m n c = simp append-assoc
 
@@ -39,7 +39,7 @@ module _ (s : Side) (d : Batch) (x : Pair) (near far : Tree) where
   unfolding trueHeight
   true-mk = elim s [ Left ↦ refl | Right ↦ omega arith ]
 
-  pub order-mk : inOrder (mk s d x near far) ≡ between s (inOrder near) d (inOrder far)
+  pub order-mk : inOrder (mk s d x near far) ≡ inBetween s (inOrder near) d (inOrder far)
   unfolding inOrder
   order-mk = elim s [ Left ↦ refl | Right ↦ refl ]
 

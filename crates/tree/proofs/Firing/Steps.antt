@@ -1,10 +1,9 @@
 -- A rewriting that comes out is a step, and a step comes out; at any place, by one induction. Assumes nothing.
-use Prim.Native.Nat.{ℕ}
 use mathlib.Core.Path.{_≡_, refl}
 use mathlib.Core.Bool.{Bool, true, false}
 use mathlib.Core.Option.{Option, none, some}
 use mathlib.Core.List.{List, [], _∷_}
-use native.Mathlib.Omega.{arith}
+use Rattle.scope.proofs.Bools.{never}
 use Rattle.scope.specs.Tree.{Batch, Tree, leaf, node}
 use Rattle.scope.specs.Rules.{pair}
 use Rattle.scope.specs.declared.rule.Pair.{Pair}
@@ -13,11 +12,11 @@ use Rattle.scope.specs.declared.side.Side.the-variants.{Left, Right}
 use Rattle.scope.specs.declared.rule.Kind.{Kind}
 use Rattle.scope.specs.declared.rule.Kind.the-variants.{Propagate, Lean, Even, Double}
 use Rattle.scope.specs.declared.rule.Rule.{Rule}
-use Rattle.tree.specs.Rewrite.{mk, onTop, when, Test, act, hung, rewriteTop, rewriteAt}
+use Rattle.tree.specs.Rewrite.{mk, onTop, when, Test, act, overNear, rewriteTop, rewriteAt}
 use Rattle.tree.specs.Step.{Step, propagates, leans, evens, doubles}
 
 pub no-tree {ℓ} : {P : Type ℓ} {T : Tree} → none ≡ some T → P
-no-tree {T = T} e = let z : _≡_ {A = ℕ} 0 1 = cc in absurd (omega arith)
+no-tree {T = T} e = never cc
 
 pub none-there : (o : Option Tree) → ((T : Tree) → o ≡ some T → ⊥) → o ≡ none
 none-there none f = refl
@@ -79,7 +78,7 @@ module _ (test : Test) where
   steps r T T′ x = steps-act (r .kind) (r .side) T T′ x
 
   hung-is : (s : Side) (d : Batch) (x : Pair) (o : Option Tree) (far T′ : Tree)
-      → hung s d x o far ≡ some T′ → (P : Tree → Type 0)
+      → overNear s d x o far ≡ some T′ → (P : Tree → Type 0)
       → ((near : Tree) → o ≡ some near → P (mk s d x near far)) → P T′
   hung-is s d x none far T′ e P k = no-tree e
   hung-is s d x (some near) far T′ e P k = let q : mk s d x near far ≡ T′ = cc in rw (← q) (k near refl)

@@ -6,7 +6,7 @@ use mathlib.Core.Option.{none}
 use native.Mathlib.Omega.{arith}
 use lib.Dec.{eqb, ltb}
 use borrow.Author.Tests.{eqb-false, ltb-true, ltb-false}
-use Rattle.scope.proofs.Bools.{by-bool}
+use Rattle.scope.proofs.Bools.{by-bool, never}
 use Rattle.scope.specs.Tree.{Batch, Tree, leaf, node, size, times, same, Below, Above, Ordered}
 use Rattle.tree.specs.Seek.{seek, endOf, atKey}
 use Rattle.tree.proofs.Keys.Keyed.{at-times, at-size}
@@ -17,7 +17,7 @@ pub missing : {X : Type 0} (key : ℕ) (d : Batch) (a b : ℕ) (l r : Tree) → 
 unfolding seek
 missing key d a b l r e k =
     by-bool (eqb key (d .key))
-    (λ p. let q = simp p at e in let z : _≡_ {A = ℕ} 0 1 = cc in absurd (omega arith))
+    (λ p. let q = simp p at e in never cc)
     (λ p. k p (λ f. simp (p, f) at e) (λ f. simp (p, f) at e))
 
 -- nothing hangs where it would be

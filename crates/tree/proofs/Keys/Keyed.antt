@@ -6,7 +6,7 @@ use mathlib.Core.Bool.{true, false}
 use mathlib.Core.List.{List, [], _∷_}
 use native.Mathlib.Omega.{arith}
 use lib.Dec.{eqb, ltb}
-use Rattle.scope.proofs.Bools.{by-bool}
+use Rattle.scope.proofs.Bools.{by-bool, never}
 use Rattle.scope.specs.Tree.{Batch, Tree, leaf, node, size, times, Below, Above, Ordered}
 use Rattle.scope.specs.declared.side.Side.{Side}
 use Rattle.scope.specs.declared.side.Side.the-variants.{Left, Right}
@@ -26,7 +26,7 @@ end-there key (node d a b l r) =
 pub end-found : (key : ℕ) (T : Tree) (d : Batch) → seek key T ≡ some d → (P : Tree → Type 0)
     → ((a b : ℕ) (l r : Tree) → P (node d a b l r)) → P (endOf key T)
 unfolding seek endOf
-end-found key leaf d e P f = let z : _≡_ {A = ℕ} 0 1 = cc in absurd (omega arith)
+end-found key leaf d e P f = never cc
 end-found key (node b x y l r) d e P f =
     by-bool (eqb key (b .key))
     (λ q. let same : b ≡ d = cc (simp q at e) in simp q (rw same (f x y l r)))

@@ -9,7 +9,7 @@ use Rattle.scope.specs.declared.side.Side.the-variants.{Left, Right}
 use Rattle.scope.specs.declared.rule.Kind.{Kind}
 use Rattle.scope.specs.declared.rule.Kind.the-variants.{Propagate, Lean, Even, Double}
 use Rattle.scope.proofs.Script.{Row, row, rows}
-use Rattle.tree.specs.Rewrite.{ruleOn, rewriteTop, rewriteAt, Attempt, attempted, kept, after, accepted}
+use Rattle.tree.specs.Rewrite.{ruleOn, rewriteTop, rewriteAt, Attempt, attempted, orSame, afterAttempts, acceptedAttempts}
 
 -- a record in slot k, as it is posted, and an attempt
 abbrev pub batch : ℕ → Batch
@@ -24,7 +24,7 @@ try way k s = record { way = way; rule = ruleOn k s }
 -- the worth before and after each attempt
 abbrev worths : List Attempt → Tree → List ℕ
 worths [] T = worthOf T ∷ []
-worths (x ∷ xs) T = worthOf T ∷ worths xs (kept (attempted x T) T)
+worths (x ∷ xs) T = worthOf T ∷ worths xs (orSame (attempted x T) T)
 
 -- the slots and registers of a tree, from the top down
 abbrev shown : Tree → List ℕ → List ℕ
@@ -60,13 +60,13 @@ m4-firings =
 abbrev table : List Row
 table =
     row (worths m1-firings m1) (18 ∷ 14 ∷ 10 ∷ 7 ∷ 0 ∷ [])
-    ∷ row (shown (after m1-firings m1) []) (2 ∷ 1 ∷ 1 ∷ 1 ∷ 0 ∷ 0 ∷ 3 ∷ 0 ∷ 0 ∷ [])
-    ∷ row (shown (after m2-firings m2) []) (3 ∷ 1 ∷ 1 ∷ 2 ∷ 0 ∷ 0 ∷ 1 ∷ 0 ∷ 0 ∷ [])
+    ∷ row (shown (afterAttempts m1-firings m1) []) (2 ∷ 1 ∷ 1 ∷ 1 ∷ 0 ∷ 0 ∷ 3 ∷ 0 ∷ 0 ∷ [])
+    ∷ row (shown (afterAttempts m2-firings m2) []) (3 ∷ 1 ∷ 1 ∷ 2 ∷ 0 ∷ 0 ∷ 1 ∷ 0 ∷ 0 ∷ [])
     -- the fourth, rule 3, is refused, and rule 5 accepted
     ∷ row (worths m4-firings m4) (42 ∷ 32 ∷ 12 ∷ 5 ∷ 5 ∷ 4 ∷ [])
-    ∷ row (accepted m4-firings m4 ∷ []) (4 ∷ [])
+    ∷ row (acceptedAttempts m4-firings m4 ∷ []) (4 ∷ [])
     ∷ []
 
-pub marked : map (λ r. r .given) table ≡ map (λ r. r .stated) table
-unfolding worthOf NEG POS BAL RBAL negOf posOf size rewriteAt rewriteTop after accepted
-marked = rows table refl
+pub markedTrees : map (λ r. r .given) table ≡ map (λ r. r .stated) table
+unfolding worthOf NEG POS BAL RBAL negOf posOf size rewriteAt rewriteTop afterAttempts acceptedAttempts
+markedTrees = rows table refl

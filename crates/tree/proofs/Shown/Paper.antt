@@ -9,7 +9,7 @@ use Rattle.scope.specs.Worth.{worthOf, largestCarry, largestBalance}
 use Rattle.scope.specs.declared.side.Side.{Side}
 use Rattle.scope.specs.declared.rule.Rule.{Rule}
 use Rattle.scope.specs.Rules.{guard}
-use Rattle.tree.specs.Rewrite.{fireAt, Attempt, accepted}
+use Rattle.tree.specs.Rewrite.{fireAt, Attempt, acceptedAttempts}
 use Rattle.tree.specs.Shape.{Relaxed, Covered, Balanced, Quiet}
 use Rattle.tree.specs.Variant.{Less, variantOf}
 use Rattle.tree.proofs.Firing.Keeps.{keeps}
@@ -49,5 +49,5 @@ pub worth-variant : (way : List Side) (r : Rule) (T T′ : Tree) → fireAt way 
 worth-variant = worth-falls
 
 pub steps-bound : (xs : List Attempt) (T : Tree)
-    → accepted xs T ≤ 6 * largestCarry T * size T * (size T + 1) + 3 * largestBalance T * size T
+    → acceptedAttempts xs T ≤ 6 * largestCarry T * size T * (size T + 1) + 3 * largestBalance T * size T
 steps-bound xs T = omega (arith, accepted-bound xs T, worth-bound T)

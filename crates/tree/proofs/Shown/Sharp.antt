@@ -113,14 +113,14 @@ below-more leaf a b l h = tt
 below-more (node d x y p q) a b l h = (omega arith, below-more p a b l (h .1), below-more q a b l (h .2))
 
 -- the slots from left to right are those after k, and each is its record's key
-abbrev pub Numbered : ℕ → Tree → Type 0
-Numbered k leaf = Unit {0}
-Numbered k (node d a b l r) =
-    (d ≡ batch (suc (k + size l))) × Numbered k l × Numbered (suc (k + size l)) r
+abbrev pub SlotsNumbered : ℕ → Tree → Type 0
+SlotsNumbered k leaf = Unit {0}
+SlotsNumbered k (node d a b l r) =
+    (d ≡ batch (suc (k + size l))) × SlotsNumbered k l × SlotsNumbered (suc (k + size l)) r
 
 record Sparse (h k : ℕ) (T : Tree) : Type 0 where
   count : size T ≡ fewest h
-  numbered : Numbered k T
+  numbered : SlotsNumbered k T
   high : trueHeight T ≡ h
   balanced : Balanced T
   above : Above k T
@@ -199,7 +199,7 @@ pub record Sixteen : Type 0 where
   pub relaxed : HeightRelaxed tree
   pub balanced : Balanced tree
   pub quiet : Quiet tree
-  pub numbered : Numbered 0 tree
+  pub numbered : SlotsNumbered 0 tree
   pub count : size tree ≡ 2583
   pub high : trueHeight tree ≡ 16
   pub walk : visits 1 tree ≡ 16

@@ -5,7 +5,7 @@ use native.Mathlib.Omega.{arith}
 use native.Mathlib.Decide.{decLe}
 use native.Mathlib.Nat.{mul-le-mul-left}
 use Rattle.scope.specs.Tree.{over}
-use Rattle.tree.specs.Variant.{short, long, apart, excess}
+use Rattle.tree.specs.Variant.{short, long, imbalance, excess}
 use Rattle.tree.proofs.Worth.Rotate.{Grows, lean, double}
 
 -- negative carries: none, by d, and how they grow with the local height
@@ -32,12 +32,12 @@ unfolding long
 long-down above h d = omega arith
 
 -- balances
-pub apart-is : (a b : ℕ) → b ≤ a → apart a b + b ≡ a
-unfolding apart
+pub apart-is : (a b : ℕ) → b ≤ a → imbalance a b + b ≡ a
+unfolding imbalance
 apart-is a b h = omega arith
 
-pub apart-sym : (a b : ℕ) → apart a b ≡ apart b a
-unfolding apart
+pub apart-sym : (a b : ℕ) → imbalance a b ≡ imbalance b a
+unfolding imbalance
 apart-sym a b = omega arith
 
 pub excess-is : (a b : ℕ) → b < a → excess a b + suc b ≡ a
@@ -49,8 +49,8 @@ unfolding excess
 excess-sym a b = omega arith
 
 -- the rotations: a and r are v's registers, p and q u's, x and y w's
-grows : Grows apart 1 0
-unfolding apart
+grows : Grows imbalance 1 0
+unfolding imbalance
 grows =
     record {
       even = apart-sym;
@@ -61,16 +61,16 @@ grows =
     }
 
 pub lean-apart : (a p q r : ℕ) → a ≡ suc p → q < p → r < p
-    → 3 + (apart q r + apart p (over q r)) ≤ apart p q + apart a r
-lean-apart = lean apart 1 0 3 grows refl
+    → 3 + (imbalance q r + imbalance p (over q r)) ≤ imbalance p q + imbalance a r
+lean-apart = lean imbalance 1 0 3 grows refl
 
 pub double-apart : (a p q r x y : ℕ) → a ≡ suc q → q ≡ over x y → p < q → r < q
-    → 3 + (apart p x + (apart y r + apart (over p x) (over y r))) ≤ apart x y + (apart p q + apart a r)
-double-apart = double apart 1 0 3 grows refl
+    → 3 + (imbalance p x + (imbalance y r + imbalance (over p x) (over y r))) ≤ imbalance x y + (imbalance p q + imbalance a r)
+double-apart = double imbalance 1 0 3 grows refl
 
 -- an even u: the balances come to the same, and one of them is nearer to one
 module _ (a p q r : ℕ) (e : a ≡ suc p) (f : q ≡ p) (k : r < p) where
-  pub even-apart : apart p (over q r) + apart q r ≡ apart a r + apart p q
+  pub even-apart : imbalance p (over q r) + imbalance q r ≡ imbalance a r + imbalance p q
   even-apart =
       let g : over p r ≡ suc p = omega arith in
       rw (e, f, g)
@@ -108,7 +108,7 @@ rise-short o s a b h above lt =
 
 -- one that lowers it
 sink : (a b h above d k : ℕ) → a ≡ h + suc d → over a b ≡ over h b + k
-    → 2 * long above (over h b) + apart h b < 2 * long above (over a b) + apart a b + 2 * long a h
+    → 2 * long above (over h b) + imbalance h b < 2 * long above (over a b) + imbalance a b + 2 * long a h
 sink a b h above d k e f =
     let l : long above (over h b) ≤ long above (over a b) + k = rw f (long-down above (over h b) k) in
     let z : long a h ≡ suc d = rw e (long-is h (suc d)) in
@@ -121,5 +121,5 @@ sink a b h above d k e f =
     ]
 
 pub sink-long : (a b h above : ℕ) → h < a
-    → 2 * long above (over h b) + apart h b < 2 * long above (over a b) + apart a b + 2 * long a h
+    → 2 * long above (over h b) + imbalance h b < 2 * long above (over a b) + imbalance a b + 2 * long a h
 sink-long a b h above lt = sink a b h above (a - suc h) (over a b - over h b) (omega arith) (omega arith)

@@ -15,7 +15,7 @@ use Rattle.scope.specs.declared.rule.Kind.the-variants.{Propagate, Lean, Even, 
 use Rattle.scope.specs.declared.rule.Rule.{Rule}
 use Rattle.tree.specs.Weight.{tilt, carry, topHeight, under, Scale, weigh, Fair}
 use Rattle.tree.specs.Measure.{taken, brought, Measure}
-use Rattle.tree.specs.Rewrite.{fireAt, Attempt, attempted, kept, counted, after, accepted}
+use Rattle.tree.specs.Rewrite.{fireAt, Attempt, attempted, orSame, oneIf, afterAttempts, acceptedAttempts}
 use Rattle.tree.proofs.Worth.Weight.{worth-under, worth-least}
 use Rattle.tree.proofs.Worth.Tilt.{tilt-sym, carry-none, carry-step, propagate-num, lean-tilt, even-tilt, double-tilt}
 use Rattle.tree.proofs.Firing.Guards.{propagate-says, lean-says, even-says, double-says}
@@ -87,19 +87,19 @@ worth-falls way r T T′ e =
     )
 
 one : (o : Option Tree) (T : Tree) → ((T′ : Tree) → o ≡ some T′ → worthOf T′ < worthOf T)
-    → counted o + worthOf (kept o T) ≤ worthOf T
+    → oneIf o + worthOf (orSame o T) ≤ worthOf T
 one none T h = omega arith
 one (some T′) T h = omega (arith, h T′ refl)
 
 -- so no more attempts of any list are accepted than the worth: what is left of it is still to be spent
-pub accepted-bound : (xs : List Attempt) (T : Tree) → accepted xs T + worthOf (after xs T) ≤ worthOf T
-unfolding accepted after
+pub accepted-bound : (xs : List Attempt) (T : Tree) → acceptedAttempts xs T + worthOf (afterAttempts xs T) ≤ worthOf T
+unfolding acceptedAttempts afterAttempts
 accepted-bound [] T = omega arith
 accepted-bound (x ∷ xs) T =
     omega (
       arith,
       one (attempted x T) T (worth-falls (x .way) (x .rule) T),
-      accepted-bound xs (kept (attempted x T) T),
+      accepted-bound xs (orSame (attempted x T) T),
     )
 
 -- and where the worth is spent, no guard holds

@@ -5,7 +5,7 @@ use native.Mathlib.Omega.{arith}
 use Rattle.scope.specs.Tree.{Tree, leaf, node, size}
 use Rattle.scope.specs.Worth.{negOf, posOf, NEG, POS, BAL, RBAL}
 use Rattle.tree.specs.Weight.{weigh}
-use Rattle.tree.specs.Variant.{short, long, apart, excess, negative, mixed, uneven}
+use Rattle.tree.specs.Variant.{short, long, imbalance, excess, negative, mixed, uneven}
 
 pub negative-is : (T : Tree) (n o above : ℕ) → n ≡ o + size T → weigh negative T o above ≡ negOf n above T + NEG n T
 unfolding weigh size negOf NEG short
@@ -20,7 +20,7 @@ negative-is (node d a b l r) n o above e =
     ))
 
 pub mixed-is : (T : Tree) (o above : ℕ) → weigh mixed T o above ≡ 2 * posOf above T + (2 * POS T + BAL T)
-unfolding weigh posOf POS BAL long apart
+unfolding weigh posOf POS BAL long imbalance
 mixed-is leaf o above = refl
 mixed-is (node d a b l r) o above =
     omega (arith, mixed-is l (o + suc (size r)) a, mixed-is r (o + suc (size l)) b)

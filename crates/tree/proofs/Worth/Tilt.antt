@@ -8,7 +8,7 @@ use native.Mathlib.Decide.{decLe, decLt}
 use native.Mathlib.Nat.{mul-le-mul-left}
 use Rattle.scope.specs.Tree.{over}
 use Rattle.tree.specs.Weight.{tilt, carry}
-use Rattle.tree.specs.Variant.{apart, excess}
+use Rattle.tree.specs.Variant.{imbalance, excess}
 use Rattle.tree.proofs.Worth.Rotate.{Grows, lean, double}
 use Rattle.tree.proofs.Worth.Apart.{even-apart, even-excess}
 
@@ -67,8 +67,8 @@ pub double-tilt : (a p q r x y : ℕ) → a ≡ suc q → q ≡ over x y → p <
 double-tilt = double tilt 3 1 7 grows refl
 
 -- a tilt is twice the balance and its excess
-tilt-is : (a b : ℕ) → tilt a b ≡ 2 * apart a b + excess a b
-unfolding tilt apart excess
+tilt-is : (a b : ℕ) → tilt a b ≡ 2 * imbalance a b + excess a b
+unfolding tilt imbalance excess
 tilt-is a b = refl
 
 pub even-tilt : (a p q r : ℕ) → a ≡ suc p → q ≡ p → r < p → suc (tilt q r + tilt p (over q r)) ≤ tilt p q + tilt a r

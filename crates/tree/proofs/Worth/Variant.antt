@@ -17,7 +17,7 @@ use Rattle.scope.specs.declared.rule.Kind.the-variants.{Propagate, Lean, Even, 
 use Rattle.scope.specs.declared.rule.Rule.{Rule}
 use Rattle.tree.specs.Weight.{topHeight, weigh, Fair}
 use Rattle.tree.specs.Variant.{Triple, Less, first, second, third, variantOf}
-use Rattle.tree.specs.Variant.{short, long, apart, excess, negative, mixed, uneven, triple}
+use Rattle.tree.specs.Variant.{short, long, imbalance, excess, negative, mixed, uneven, triple}
 use Rattle.tree.specs.Measure.{taken, brought, Measure}
 use Rattle.tree.specs.Rewrite.{fireAt}
 use Rattle.tree.proofs.Worth.Apart.{short-mono, long-down, rise-short, sink-long}
@@ -32,7 +32,7 @@ unfolding short
 fair-negative = record { none = λ o h. (let z : h - h ≡ 0 = omega arith in rw z (omega arith)); even = λ a b. refl }
 
 fair-mixed : Fair mixed
-unfolding long apart
+unfolding long imbalance
 fair-mixed = record { none = λ o h. omega arith; even = λ a b. omega arith }
 
 fair-uneven : Fair uneven

@@ -5,17 +5,17 @@ use borrow.Author.Needs.{needs}
 use Rattle.gate.proofs.tests.fit.Statement.{statement}
 use Rattle.gate.proofs.tests.fit.Tie as tie
 
-record-ok-requires : tie.Need-record-ok-requires
-record-ok-requires c κs = search needs
+contents-ok-requires : tie.Need-contents-ok-requires
+contents-ok-requires c κs = search needs
 
 links-ok-requires : tie.Need-links-ok-requires
 links-ok-requires c κs = search needs
 
 returns : tie.Need-returns
-returns c = let a = c .before .before .before .args in rw (sym (fit-together (a .c) (a .s)), sym (c .before .before .record-ok .ensures), c .before .if1 .taken, sym (c .links-ok .ensures)) refl
+returns c = let a = c .before .before .before .args in rw (sym (fit-together (a .c) (a .s)), sym (c .before .before .contents-ok .ensures), c .before .if1 .taken, sym (c .links-ok .ensures)) refl
 
 returns-2 : tie.Need-returns-2
-returns-2 c = let a = c .before .before .args in rw (sym (fit-together (a .c) (a .s)), sym (c .before .record-ok .ensures), c .if1 .left) refl
+returns-2 c = let a = c .before .before .args in rw (sym (fit-together (a .c) (a .s)), sym (c .before .contents-ok .ensures), c .if1 .left) refl
 
 pub fit-spec : {M : Type 1} → statement M
-fit-spec = tie.close (tie.spec record-ok-requires links-ok-requires returns returns-2)
+fit-spec = tie.close (tie.spec contents-ok-requires links-ok-requires returns returns-2)

@@ -1,0 +1,38 @@
+-- `gate::tests::contents_ok` meets its contract. Assumes nothing.
+use mathlib.Core.Path.{refl, sym}
+use borrow.Author.Needs.{needs}
+use Rattle.gate.proofs.tests.contents_ok.Statement.{statement}
+use Rattle.gate.proofs.tests.contents_ok.Tie as tie
+
+registers-ok-requires : tie.Need-registers-ok-requires
+registers-ok-requires c κs = search needs
+
+pieces-ok-requires : tie.Need-pieces-ok-requires
+pieces-ok-requires c κs = search needs
+
+ends-ok-requires : tie.Need-ends-ok-requires
+ends-ok-requires c κs = search needs
+
+returns : tie.Need-returns
+returns c = rw (sym (c .before .before .before .before .before .before .registers-ok .ensures), c .before .before .before .before .before .if1 .taken, sym (c .before .before .before .before .pieces-ok .ensures), c .before .before .before .if2 .taken, sym (c .before .before .ends-ok .ensures), c .before .if3 .taken) refl
+
+returns-2 : tie.Need-returns-2
+returns-2 c = simp (sym (c .before .before .before .before .before .registers-ok .ensures), c .before .before .before .before .if1 .taken, sym (c .before .before .before .pieces-ok .ensures), c .before .before .if2 .taken, sym (c .before .ends-ok .ensures), c .if3 .left)
+
+returns-3 : tie.Need-returns-3
+returns-3 c = simp (sym (c .before .before .before .registers-ok .ensures), c .before .before .if1 .taken, sym (c .before .pieces-ok .ensures), c .if2 .left)
+
+returns-4 : tie.Need-returns-4
+returns-4 c = simp (sym (c .before .registers-ok .ensures), c .if1 .left)
+
+pub contents-ok-spec : {M : Type 1} → statement M
+contents-ok-spec =
+    tie.close
+    (tie.spec
+    registers-ok-requires
+    pieces-ok-requires
+    ends-ok-requires
+    returns
+    returns-2
+    returns-3
+    returns-4)
