@@ -8,9 +8,10 @@ use scope::Slot;
 use scope::Slots;
 use scope::SlotsIs;
 ghost use mathlib.Core.Path.{_≡_};
-ghost use Rattle.scope.specs.Table.{slotsIn};
+ghost use Rattle.scope.specs.Table.{slotsIn, word, changeWord};
 ghost use Rattle.scope.specs.Fit.{headerOk};
 ghost use Rattle.scope.specs.Answers.{codeOf, refusal, accepted, gate};
+ghost use Rattle.spelling.specs.Ready.{Headed};
 
 // The slots of a table of so many words.
 pub fn capacity(n: usize) -> SlotsIs
@@ -84,4 +85,12 @@ pub fn accept(change: u64, value: u64, more: u64, kind: u64) -> Answer
         more,
         kind,
     }
+}
+
+// An accepted call that says one number and changes nothing.
+pub fn told(t: &[u32], value: u64) -> Answer
+    requires { ⌜ Headed (now t) ⌝ }
+    ensures { λ r. ⌜ r ≡ accepted (word (now (t .entry)) changeWord) value 0 0 ⌝ }
+{
+    accept(words::long(words::change(t)), value, 0, 0)
 }

@@ -7,6 +7,7 @@ pub use call::accept;
 pub use call::capacity;
 pub use call::enter;
 pub use call::refuse;
+pub use call::told;
 pub use ending::next_change;
 pub use ending::settle;
 pub use tests::blank;

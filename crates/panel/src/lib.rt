@@ -1,15 +1,8 @@
 // The calls for C: each writes its five numbers to `out`.
 use scope::Answer;
 ghost use mathlib.Core.Path.{_≡_};
-ghost use Rattle.scope.specs.Find.{startAnswer, startTable, findAnswer};
-ghost use Rattle.scope.specs.Post.{postAnswer, postTable};
-ghost use Rattle.scope.specs.Amend.{amendAnswer, amendTable};
-ghost use Rattle.scope.specs.Drop.{dropAnswer, dropTable};
-ghost use Rattle.scope.specs.Sums.{checkAnswer, rankAnswer, totalAnswer};
-ghost use Rattle.scope.specs.Worth.{worthAnswer};
-ghost use Rattle.scope.specs.Fire.{fireAnswer, fireTable};
-ghost use Rattle.scope.specs.Tidy.{tidyAnswer, tidyTable};
-ghost use Rattle.panel.specs.Five.{fiveOf};
+ghost use Rattle.scope.specs.Calls.{Start, Check, Find, Post, Amend, Drop, Rank, Total, Worth, Fire, Tidy};
+ghost use Rattle.panel.specs.Five.{fiveOf, Gives};
 
 // The five numbers of an answer in their order.
 pub fn five(a: Answer) -> [u64; 5]
@@ -20,77 +13,77 @@ pub fn five(a: Answer) -> [u64; 5]
 
 #[no_mangle]
 pub extern "C" fn ftk_start(t: &mut [u32], out: &mut [u64; 5])
-    ensures { λ _. ⌜ (now (out .exit) ≡ fiveOf (startAnswer (now (t .entry)))) × (now (t .exit) ≡ startTable (now (t .entry))) ⌝ }
+    ensures { λ _. ⌜ Gives Start (now (t .entry)) (now (out .exit)) (now (t .exit)) ⌝ }
 {
     *out = five(index::start(t));
 }
 
 #[no_mangle]
 pub extern "C" fn ftk_check(t: &[u32], out: &mut [u64; 5])
-    ensures { λ _. ⌜ now (out .exit) ≡ fiveOf (checkAnswer (now (t .entry))) ⌝ }
+    ensures { λ _. ⌜ Gives Check (now (t .entry)) (now (out .exit)) (now (t .entry)) ⌝ }
 {
     *out = five(index::check(t));
 }
 
 #[no_mangle]
 pub extern "C" fn ftk_find(t: &[u32], key: u32, out: &mut [u64; 5])
-    ensures { λ _. ⌜ now (out .exit) ≡ fiveOf (findAnswer (now (t .entry)) key) ⌝ }
+    ensures { λ _. ⌜ Gives (Find key) (now (t .entry)) (now (out .exit)) (now (t .entry)) ⌝ }
 {
     *out = five(index::find(t, key));
 }
 
 #[no_mangle]
 pub extern "C" fn ftk_post(t: &mut [u32], key: u32, pieces: u32, state: u32, out: &mut [u64; 5])
-    ensures { λ _. ⌜ (now (out .exit) ≡ fiveOf (postAnswer (now (t .entry)) key pieces state)) × (now (t .exit) ≡ postTable (now (t .entry)) key pieces state) ⌝ }
+    ensures { λ _. ⌜ Gives (Post key pieces state) (now (t .entry)) (now (out .exit)) (now (t .exit)) ⌝ }
 {
     *out = five(index::post(t, key, pieces, state));
 }
 
 #[no_mangle]
 pub extern "C" fn ftk_amend(t: &mut [u32], key: u32, pieces: u32, state: u32, out: &mut [u64; 5])
-    ensures { λ _. ⌜ (now (out .exit) ≡ fiveOf (amendAnswer (now (t .entry)) key pieces state)) × (now (t .exit) ≡ amendTable (now (t .entry)) key pieces state) ⌝ }
+    ensures { λ _. ⌜ Gives (Amend key pieces state) (now (t .entry)) (now (out .exit)) (now (t .exit)) ⌝ }
 {
     *out = five(index::amend(t, key, pieces, state));
 }
 
 #[no_mangle]
 pub extern "C" fn ftk_drop(t: &mut [u32], key: u32, out: &mut [u64; 5])
-    ensures { λ _. ⌜ (now (out .exit) ≡ fiveOf (dropAnswer (now (t .entry)) key)) × (now (t .exit) ≡ dropTable (now (t .entry)) key) ⌝ }
+    ensures { λ _. ⌜ Gives (Drop key) (now (t .entry)) (now (out .exit)) (now (t .exit)) ⌝ }
 {
     *out = five(index::drop(t, key));
 }
 
 #[no_mangle]
 pub extern "C" fn ftk_rank(t: &[u32], r: u32, out: &mut [u64; 5])
-    ensures { λ _. ⌜ now (out .exit) ≡ fiveOf (rankAnswer (now (t .entry)) r) ⌝ }
+    ensures { λ _. ⌜ Gives (Rank r) (now (t .entry)) (now (out .exit)) (now (t .entry)) ⌝ }
 {
     *out = five(index::rank(t, r));
 }
 
 #[no_mangle]
 pub extern "C" fn ftk_total(t: &[u32], key: u32, out: &mut [u64; 5])
-    ensures { λ _. ⌜ now (out .exit) ≡ fiveOf (totalAnswer (now (t .entry)) key) ⌝ }
+    ensures { λ _. ⌜ Gives (Total key) (now (t .entry)) (now (out .exit)) (now (t .entry)) ⌝ }
 {
     *out = five(index::total(t, key));
 }
 
 #[no_mangle]
 pub extern "C" fn ftk_worth(t: &[u32], out: &mut [u64; 5])
-    ensures { λ _. ⌜ now (out .exit) ≡ fiveOf (worthAnswer (now (t .entry))) ⌝ }
+    ensures { λ _. ⌜ Gives Worth (now (t .entry)) (now (out .exit)) (now (t .entry)) ⌝ }
 {
     *out = five(index::worth(t));
 }
 
 #[no_mangle]
 pub extern "C" fn ftk_fire(t: &mut [u32], rule: u32, holder: u32, side: u32, out: &mut [u64; 5])
-    ensures { λ _. ⌜ (now (out .exit) ≡ fiveOf (fireAnswer (now (t .entry)) rule holder side)) × (now (t .exit) ≡ fireTable (now (t .entry)) rule holder side) ⌝ }
+    ensures { λ _. ⌜ Gives (Fire rule holder side) (now (t .entry)) (now (out .exit)) (now (t .exit)) ⌝ }
 {
     *out = five(index::fire(t, rule, holder, side));
 }
 
 #[no_mangle]
 pub extern "C" fn ftk_tidy(t: &mut [u32], budget: u32, out: &mut [u64; 5])
-    ensures { λ _. ⌜ (now (out .exit) ≡ fiveOf (tidyAnswer (now (t .entry)) budget)) × (now (t .exit) ≡ tidyTable (now (t .entry)) budget) ⌝ }
+    ensures { λ _. ⌜ Gives (Tidy budget) (now (t .entry)) (now (out .exit)) (now (t .exit)) ⌝ }
 {
     *out = five(index::tidy(t, budget));
 }

@@ -10,33 +10,34 @@ use Rattle.scope.specs.Table.{word, rootWord, countWord}
 use Rattle.scope.specs.Sound.{batchAt, treeIn}
 use Rattle.spelling.specs.Whole.{Whole}
 use Rattle.spelling.proofs.Spell.{tree-in}
+use Rattle.scope.specs.Numbers.{mostSlots}
 use Rattle.scope.specs.Sums.{slotsInOrder, pick, rankOf}
 use Rattle.scope.specs.declared.outcome.Rank.{Rank}
 use Rattle.scope.specs.declared.outcome.Rank.the-variants.{At, Past}
-use Rattle.total.specs.declared.Fork.{Fork}
-use Rattle.total.specs.Hangs.{Hangs, Says}
-use Rattle.rank.specs.Ranks.{rankIn, Seeks}
-use Rattle.total.proofs.Down.{Forked, said-at, at-leaf, says-leaf, says-fork}
+use Rattle.fork.specs.declared.Fork.{Fork}
+use Rattle.fork.specs.Hangs.{Hangs, Says}
+use Rattle.rank.specs.Ranks.{firstRank, rankIn, Seeks}
+use Rattle.fork.proofs.Down.{Forked, said-at, at-leaf, says-leaf, says-fork}
 use Rattle.rank.proofs.Pick.{after, order-node, order-size, pick-past, past-is}
 use Rattle.rank.proofs.Pick.{pick-left, pick-here, pick-after}
 
--- what a number below 4,096 says, and one from there on
-pub at-in : (w : ℕ) {n : ℕ} → n < 4096 → rankIn w n ≡ At n
+-- what a number below the first rank says, and one from there on
+pub at-in : (w : ℕ) {n : ℕ} → n < firstRank → rankIn w n ≡ At n
 unfolding rankIn
-at-in w {n} h = rw (lt-ltb n 4096 h) refl
+at-in w {n} h = rw (lt-ltb n firstRank h) refl
 
-pub past-in : (w : ℕ) {n : ℕ} → 4096 ≤ n → rankIn w n ≡ Past (w - n)
+pub past-in : (w : ℕ) {n : ℕ} → firstRank ≤ n → rankIn w n ≡ Past (w - n)
 unfolding rankIn
-past-in w {n} h = rw (le-ltb n 4096 h) refl
+past-in w {n} h = rw (le-ltb n firstRank h) refl
 
 -- no slot hangs at the empty link
-pub rank-leaf : (t : List ℕ) (x w : ℕ) → 4096 ≤ w → x ≡ 0 → Seeks t x w w
+pub rank-leaf : (t : List ℕ) (x w : ℕ) → firstRank ≤ w → x ≡ 0 → Seeks t x w w
 unfolding rankOf inOrder
 rank-leaf t x w pos e = record {
   most = omega arith;
   says = λ c T p.
-      past-in w pos ∙ ap Past (omega arith) ∙ sym (pick-past (w - 4095) [] (omega arith))
-      ∙ says-leaf t x (rankOf (w - 4095)) e c T p;
+      past-in w pos ∙ ap Past (omega arith) ∙ sym (pick-past (w - mostSlots) [] (omega arith))
+      ∙ says-leaf t x (rankOf (w - mostSlots)) e c T p;
 }
 
 -- a rank above the number of records
@@ -66,7 +67,7 @@ module _ {t : List ℕ} {more x : ℕ} {f : Fork} (d : Forked t more x f) {r : �
 
     module _ {n : ℕ} (e : a ≡ Past n) where
       -- the slots on the left and this one are few, and fewer than r but for this one
-      pub seen-few : (n + 1 ≤ 4095) × (n < r)
+      pub seen-few : (n + 1 ≤ mostSlots) × (n < r)
       seen-few = omega (arith, past-is r L n (sym on-left ∙ e), order-size (d .on-left .tree), d .few, d .most)
 
       pub rank-here : n + 1 ≡ r → Says t x (rankOf r) (At x)
@@ -81,24 +82,24 @@ module _ {t : List ℕ} {more x : ℕ} {f : Fork} (d : Forked t more x f) {r : �
         rank-after ne eq = rank-node (pick-after r L x R pos n (sym on-left ∙ e) ne ∙ ap (after (n + 1)) (sym on-right) ∙ sym eq)
 
 -- the walk's numbers at a slot
-module _ {t : List ℕ} {more x w n : ℕ} {f : Fork} (h : Hangs t more x) (d : Forked t more x f) (pos : 4096 ≤ w)
+module _ {t : List ℕ} {more x w n : ℕ} {f : Fork} (h : Hangs t more x) (d : Forked t more x f) (pos : firstRank ≤ w)
     (s : Seeks t (f .left) w n) where
-  pub seek-left : n < 4096 → Seeks t x w n
+  pub seek-left : n < firstRank → Seeks t x w n
   seek-left lt = record {
     most = s .most;
     says = rw (at-in w lt) (rank-left d (omega arith) (s .says) (at-in w lt));
   }
 
-  pub seek-here : n ≡ 4096 → Seeks t x w x
+  pub seek-here : n ≡ firstRank → Seeks t x w x
   seek-here e = record {
     most = omega (arith, h .link, h .sized .most);
     says = rw (at-in w {n = x} (omega (arith, h .link, h .sized .most)))
         (rank-here d (omega arith) (s .says) (past-in w (omega arith)) (omega arith));
   }
 
-  pub seek-right : {q : ℕ} → 4096 ≤ n → (n ≡ 4096 → ⊥) → Seeks t (f .right) (n - 1) q → Seeks t x w q
+  pub seek-right : {q : ℕ} → firstRank ≤ n → (n ≡ firstRank → ⊥) → Seeks t (f .right) (n - 1) q → Seeks t x w q
   seek-right {q} ge ne z =
-      let e : n - 1 - 4095 ≡ w - 4095 - (w - n + 1) = omega (arith, s .most) in
+      let e : n - 1 - mostSlots ≡ w - mostSlots - (w - n + 1) = omega (arith, s .most) in
       let right = rw e at (z .says) in
       record {
         most = omega (arith, s .most, z .most);
@@ -107,7 +108,7 @@ module _ {t : List ℕ} {more x w n : ℕ} {f : Fork} (h : Hangs t more x) (d : 
     where
       joined : rankIn w q ≡ after (w - n + 1) (rankIn (n - 1) q)
       joined =
-          elim (decLe 4096 q) [
+          elim (decLe firstRank q) [
             | yes k ↦
                 past-in w k ∙ ap Past (omega (arith, s .most, z .most))
                 ∙ ap (after (w - n + 1)) (sym (past-in (n - 1) k))

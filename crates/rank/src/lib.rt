@@ -3,24 +3,27 @@ use scope::Answer;
 use scope::Gate;
 use scope::Rank;
 use scope::Refusal;
+use scope::Slots;
 ghost use mathlib.Core.Path.{_≡_};
 ghost use Prim.Native.Nat.{_+_, _≤_, _<_};
 ghost use Rattle.scope.specs.Sound.{treeIn};
-ghost use Rattle.scope.specs.Sums.{rankOf, ranked, rankAnswer};
+ghost use Rattle.scope.specs.Sums.{rankOf, ranked};
+ghost use Rattle.scope.specs.Calls.{Promise};
+ghost use Rattle.scope.specs.Calls as calls;
 ghost use Rattle.spelling.specs.Ready.{Headed};
 ghost use Rattle.spelling.specs.Whole.{Whole};
-ghost use Rattle.total.specs.Hangs.{Hangs};
-ghost use Rattle.rank.specs.Ranks.{rankIn, Seeks};
+ghost use Rattle.fork.specs.Hangs.{Hangs};
+ghost use Rattle.rank.specs.Ranks.{firstRank, rankIn, Seeks};
 
-// Rank 1 as a number, and rank r is r + 4095: so a rank that is wanted is above every slot.
-pub const FIRST: usize = 4096;
+// Rank 1 as a number, and rank r is r - 1 more: so a rank that is wanted is above every slot.
+pub const FIRST: usize = Slots::MOST + 1;
 
 // Looks for a rank among slot x and what hangs below it. Says the slot, or the rank that is wanted after all these.
 pub fn rank_at(t: &[u32], more: usize, x: usize, wanted: usize) -> usize
-    requires { ⌜ (1 ≤ x) × (4096 ≤ wanted) × Hangs (now t) more x ⌝ }
+    requires { ⌜ (1 ≤ x) × (firstRank ≤ wanted) × Hangs (now t) more x ⌝ }
     ensures { λ a. ⌜ Seeks (now (t .entry)) x wanted a ⌝ }
 {
-    let f = total::fork_at(t, x);
+    let f = fork::fork_at(t, x);
     let less = more - 1;
     let n = rank_under(t, less, f.left, wanted);
     if n < FIRST {
@@ -34,7 +37,7 @@ pub fn rank_at(t: &[u32], more: usize, x: usize, wanted: usize) -> usize
 
 // The same at a link, which may be empty.
 pub fn rank_under(t: &[u32], more: usize, x: usize, wanted: usize) -> usize
-    requires { ⌜ (4096 ≤ wanted) × Hangs (now t) more x ⌝ }
+    requires { ⌜ (firstRank ≤ wanted) × Hangs (now t) more x ⌝ }
     ensures { λ a. ⌜ Seeks (now (t .entry)) x wanted a ⌝ }
 {
     if x == 0 {
@@ -66,7 +69,7 @@ pub fn rank_in(t: &[u32], c: usize, r: usize) -> Rank
         return Rank::Past(n);
     }
     let root = words::root(t);
-    let wanted = r + 4095;
+    let wanted = r + Slots::MOST;
     rank_said(wanted, rank_at(t, n, root, wanted))
 }
 
@@ -76,14 +79,14 @@ pub fn ranked(t: &[u32], found: Rank) -> Answer
     ensures { λ r. ⌜ r ≡ ranked (now (t .entry)) found ⌝ }
 {
     match found {
-        Rank::At(slot) => sound::told(t, words::size(slot)),
+        Rank::At(slot) => gate::told(t, words::size(slot)),
         Rank::Past(_) => gate::refuse(Refusal::KeyAbsent),
     }
 }
 
 // rank: the slot of the r-th smallest key.
 pub fn rank(t: &[u32], r: u32) -> Answer
-    ensures { λ a. ⌜ a ≡ rankAnswer (now (t .entry)) r ⌝ }
+    ensures { λ a. ⌜ Promise (calls.Rank r) (now (t .entry)) a (now (t .entry)) ⌝ }
 {
     match sound::enter_sound(t, r != 0) {
         Gate::Shut(why) => gate::refuse(why),

@@ -4,7 +4,7 @@ use mathlib.Core.Path.{_≡_}
 use mathlib.Core.List.{List}
 use native.Mathlib.Omega.{arith}
 use Rattle.scope.specs.declared.outcome.Scan.{Scan}
-use Rattle.sound.specs.Scan.{Scanning, Welcome, Inside, Good, Scanned, scanOf}
+use Rattle.sound.specs.Scan.{Scanning, Welcome, Inside, Good, Scanned, scanOf, spoiled}
 use Rattle.sound.proofs.Steps.{at-end, no-room, refused, left-in, right-in, left-refused, right-part}
 use Rattle.sound.proofs.Steps.{is-spoiled, was-spoiled, is-left, was-left}
 
@@ -23,13 +23,13 @@ module _ {t m₀ : List ℕ} {c more x low high : ℕ} where
     place : at < 4096
     place = omega (arith, v .scanning .looking)
 
-    pub along-spent : (m' : List ℕ) → few ≡ 0 → Scanned t m₀ m' c more x low high (scanOf 4096)
+    pub along-spent : (m' : List ℕ) → few ≡ 0 → Scanned t m₀ m' c more x low high (scanOf spoiled)
     along-spent m' e =
-        v .whole m' (scanOf 4096) (is-spoiled t m m' c few at from high (no-room t m c at from high few (v .there) place e))
+        v .whole m' (scanOf spoiled) (is-spoiled t m m' c few at from high (no-room t m c at from high few (v .there) place e))
 
-    pub along-refused : (m' : List ℕ) → (Welcome t m c at from high → ⊥) → Scanned t m₀ m' c more x low high (scanOf 4096)
+    pub along-refused : (m' : List ℕ) → (Welcome t m c at from high → ⊥) → Scanned t m₀ m' c more x low high (scanOf spoiled)
     along-refused m' d =
-        v .whole m' (scanOf 4096) (is-spoiled t m m' c few at from high (refused t m c at from high few (v .there) place d))
+        v .whole m' (scanOf spoiled) (is-spoiled t m m' c few at from high (refused t m c at from high few (v .there) place d))
 
     -- the slot was entered
     module _ {m₁ : List ℕ} {l r k : ℕ} (o : Inside t m m₁ c at from high l r k) where
@@ -41,13 +41,13 @@ module _ {t m₀ : List ℕ} {c more x low high : ℕ} where
 
       -- and its left side scanned
       module _ (m₂ : List ℕ) (n : ℕ) (s : Scanned t m₁ m₂ c (few - 1) l from k (scanOf n)) where
-        pub along-spoiled : (m' : List ℕ) → n ≡ 4096 → Scanned t m₀ m' c more x low high (scanOf 4096)
+        pub along-spoiled : (m' : List ℕ) → n ≡ spoiled → Scanned t m₀ m' c more x low high (scanOf spoiled)
         along-spoiled m' e =
-            v .whole m' (scanOf 4096)
+            v .whole m' (scanOf spoiled)
             (is-spoiled t m m' c few at from high
             (left-refused t m c at from high few (v .there) place m₁ l r k o (was-spoiled t m₁ m₂ c (few - 1) l from k e s)))
 
-        module _ (ne : n ≡ 4096 → ⊥) (some : few ≡ 0 → ⊥) where
+        module _ (ne : n ≡ spoiled → ⊥) (some : few ≡ 0 → ⊥) where
           good : Good t m₁ m₂ c (few - 1) l from k n
           good = was-left t m₁ m₂ c (few - 1) l from k ne s
 

@@ -8,6 +8,7 @@ use native.Mathlib.Omega.{arith}
 use lib.Dec.{eqb}
 use borrow.Author.Tests.{eq-eqb, ne-eqb, eqb-false, not-true}
 use Rattle.scope.proofs.Bools.{and-l, and-r, by-bool, neither}
+use Rattle.scope.specs.Numbers.{mostSlots}
 use Rattle.scope.specs.Table.{word, rootWord, countWord, slotAt, base}
 use Rattle.scope.specs.Fit.{stateOk, fitSlot, headerOk, blankSlot}
 use Rattle.scope.specs.Tree.{Batch, Tree, leaf, node, size, times, Above, Below}
@@ -16,7 +17,7 @@ use Rattle.scope.specs.declared.slot.Slot.{Slot}
 use Rattle.marks.specs.Marks.{bitAt, Past}
 use Rattle.marks.proofs.Laws.{bit-small}
 use Rattle.marks.proofs.Passing.{all-on}
-use Rattle.sound.specs.Scan.{Fine, Good, Scanned, scanOf, settledAt, RestIs}
+use Rattle.sound.specs.Scan.{Fine, Good, Scanned, scanOf, settledAt, RestIs, spoiled}
 use Rattle.tree.proofs.Keys.Bounds.{bounded, between}
 use Rattle.spelling.proofs.Spell.{unique}
 use Rattle.sound.proofs.Steps.{was-spoiled, was-left}
@@ -56,7 +57,7 @@ module _ (t : List ℕ) (c : ℕ) where
         let k : d .key ≡ slotAt t x .key = ap (λ (e : Batch). e .key) (p .holds) in
         ((omega (arith, key-some (slotAt t x) (p .fit)), el .0, er .0), (omega (arith, key-small x), el .1, er .1))
 
-    module _ (z m : List ℕ) (zeros : (k : ℕ) → k < 4096 → bitAt z k ≡ 0) (most : c ≤ 4095) where
+    module _ (z m : List ℕ) (zeros : (k : ℕ) → k < 4096 → bitAt z k ≡ 0) (most : c ≤ mostSlots) where
       -- the tree of a sound table is what the scan looks for
       sound-fine : (s : Sound t c) → Fine t z c (word t rootWord) 0 4294967296 (s .tree)
       sound-fine s =
@@ -120,7 +121,7 @@ module _ (t : List ℕ) (c : ℕ) where
       pub by-missing : (n : ℕ) → (n ≡ 0 → ⊥)
           → Scanned t z m c (word t countWord) (word t rootWord) 0 4294967296 (scanOf n) → soundTable t c ≡ false
       by-missing n ne s =
-          elim (ℕ-discrete n 4096) [
+          elim (ℕ-discrete n spoiled) [
             | yes e ↦ by-scan (was-spoiled t z m c (word t countWord) (word t rootWord) 0 4294967296 e s)
             | no d ↦ by-count n (was-left t z m c (word t countWord) (word t rootWord) 0 4294967296 d s) ne
           ]

@@ -7,6 +7,7 @@ use native.Mathlib.Omega.{arith}
 use lib.Dec.{eqb, ltb}
 use borrow.Author.Tests.{eq-eqb, ne-eqb, ltb-true, lt-ltb}
 use Rattle.scope.proofs.Bools.{and-l, and-r, neither, both}
+use Rattle.scope.specs.Numbers.{mostSlots}
 use Rattle.scope.specs.Table.{slotAt}
 use Rattle.scope.specs.Fit.{fitSlot}
 use Rattle.scope.specs.Tree.{Batch, Tree, leaf, node, size, same, times}
@@ -17,7 +18,7 @@ use Rattle.scope.specs.declared.outcome.Scan.the-variants.{Damaged, Left}
 use Rattle.spelling.proofs.Laws.{fit-left, fit-right}
 use Rattle.marks.specs.Marks.{bitAt, Marked}
 use Rattle.marks.proofs.Laws.{bit-small, unmarked, adds}
-use Rattle.sound.specs.Scan.{Looking, inPlace, Welcome, Inside, Fine, Good, Scanned, scanOf}
+use Rattle.sound.specs.Scan.{Looking, inPlace, Welcome, Inside, Fine, Good, Scanned, scanOf, spoiled}
 use Rattle.tree.specs.Between.{Between}
 use Rattle.spelling.proofs.Spell.{topped, unique}
 use Rattle.spelling.proofs.Frame.{same-self}
@@ -206,19 +207,19 @@ module _ (t m : List ℕ) (c x low high : ℕ) where
 -- a scan's number, and what it says
 module _ (t m m' : List ℕ) (c more x low high : ℕ) where
   pub is-spoiled : ((T : Tree) → Fine t m c x low high T → size T ≤ more → ⊥)
-      → Scanned t m m' c more x low high (scanOf 4096)
+      → Scanned t m m' c more x low high (scanOf spoiled)
   unfolding scanOf
   is-spoiled f = f
 
-  pub was-spoiled : {n : ℕ} → n ≡ 4096 → Scanned t m m' c more x low high (scanOf n)
+  pub was-spoiled : {n : ℕ} → n ≡ spoiled → Scanned t m m' c more x low high (scanOf n)
       → (T : Tree) → Fine t m c x low high T → size T ≤ more → ⊥
   unfolding scanOf
-  was-spoiled {n} e s = simp (eq-eqb n 4096 e) at s
+  was-spoiled {n} e s = simp (eq-eqb n spoiled e) at s
 
-  pub is-left : {n : ℕ} → n ≤ 4095 → Good t m m' c more x low high n → Scanned t m m' c more x low high (scanOf n)
+  pub is-left : {n : ℕ} → n ≤ mostSlots → Good t m m' c more x low high n → Scanned t m m' c more x low high (scanOf n)
   unfolding scanOf
-  is-left {n} h g = simp (ne-eqb n 4096 (λ e. omega arith)) g
+  is-left {n} h g = simp (ne-eqb n spoiled (λ e. omega arith)) g
 
-  pub was-left : {n : ℕ} → (n ≡ 4096 → ⊥) → Scanned t m m' c more x low high (scanOf n) → Good t m m' c more x low high n
+  pub was-left : {n : ℕ} → (n ≡ spoiled → ⊥) → Scanned t m m' c more x low high (scanOf n) → Good t m m' c more x low high n
   unfolding scanOf
-  was-left {n} ne s = simp (ne-eqb n 4096 ne) at s
+  was-left {n} ne s = simp (ne-eqb n spoiled ne) at s

@@ -5,6 +5,7 @@ use mathlib.Core.Bool.{Bool, true, false, cond, _&&_, _||_}
 use mathlib.Core.List.{List}
 use lib.ListN.{length}
 use lib.Dec.{eqb, ltb}
+use Rattle.scope.specs.Numbers.{mostSlots}
 use Rattle.scope.specs.Table.{slotAt}
 use Rattle.scope.specs.Fit.{fitSlot, blankSlot}
 use Rattle.scope.specs.Tree.{Tree, size, times}
@@ -27,7 +28,7 @@ pub record Looking (t m : List ℕ) (c x : ℕ) : Type 0 where
 -- and how many slots may still be reached
 pub record Scanning (t m : List ℕ) (c more x : ℕ) : Type 0 where
   pub looking : Looking t m c x
-  pub few : more ≤ 4095
+  pub few : more ≤ mostSlots
 
 -- the slot is fit and its key lies between two bounds
 unfoldable pub inPlace : ℕ → Slot → ℕ → ℕ → Bool
@@ -69,9 +70,13 @@ abbrev pub Scanned : List ℕ → List ℕ → List ℕ → ℕ → ℕ → ℕ 
 Scanned t m m' c more x low high Damaged = (T : Tree) → Fine t m c x low high T → size T ≤ more → ⊥
 Scanned t m m' c more x low high (Left n) = Good t m m' c more x low high n
 
--- a scan's number: how many are left over, or 4,096 for damage
+-- what a scan says that finds damage
+abbrev pub spoiled : ℕ
+spoiled = mostSlots + 1
+
+-- a scan's number: how many are left over, or damage
 unfoldable pub scanOf : ℕ → Scan
-scanOf n = cond (eqb n 4096) Damaged (Left n)
+scanOf n = cond (eqb n spoiled) Damaged (Left n)
 
 -- slot k is marked, or eight zeros
 unfoldable pub settledAt : List ℕ → List ℕ → ℕ → Bool

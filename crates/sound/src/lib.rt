@@ -3,14 +3,16 @@ use scope::Answer;
 use scope::Gate;
 use scope::Refusal;
 use scope::Slot;
+use scope::Slots;
 use scope::Visit;
 ghost use mathlib.Core.Path.{_≡_};
 ghost use Prim.Native.Nat.{_≤_};
-ghost use Rattle.scope.specs.Table.{word, changeWord, InTable};
+ghost use Rattle.scope.specs.Numbers.{mostSlots};
+ghost use Rattle.scope.specs.Table.{word, InTable};
 ghost use Rattle.scope.specs.Sound.{soundTable};
-ghost use Rattle.scope.specs.Answers.{accepted};
-ghost use Rattle.scope.specs.Sums.{soundGate, checkAnswer};
-ghost use Rattle.spelling.specs.Ready.{Headed, Sized};
+ghost use Rattle.scope.specs.Sums.{soundGate};
+ghost use Rattle.scope.specs.Calls.{Check, Promise};
+ghost use Rattle.spelling.specs.Ready.{Sized};
 ghost use Rattle.sound.specs.Scan.{inPlace, settledAt, Looking, Scanning, Visited, Scanned, scanOf, RestIs};
 
 // One more than the largest key.
@@ -45,7 +47,7 @@ pub fn visit(t: &[u32], m: &mut [u64; 64], c: usize, x: usize, low: u64, high: u
 }
 
 // What a scan says that finds damage: more slots than can be left over.
-pub const SPOILED: usize = 4096;
+pub const SPOILED: usize = Slots::MOST + 1;
 
 // Scans slot x and what hangs below it: at most `more` slots, with keys between two bounds. Says how many are left over.
 // It calls itself for what hangs on the left, and goes on to the right by itself.
@@ -120,7 +122,7 @@ pub fn from_root(t: &[u32], m: &mut [u64; 64], c: usize, more: usize, x: usize) 
 
 // Whether slot k was reached, or is eight zeros.
 pub fn settled(t: &[u32], m: &[u64; 64], k: usize) -> bool
-    requires { ⌜ InTable (now t) k × (k ≤ 4095) ⌝ }
+    requires { ⌜ InTable (now t) k × (k ≤ mostSlots) ⌝ }
     ensures { λ r. ⌜ r ≡ settledAt (now (t .entry)) (now (m .entry)) k ⌝ }
 {
     if marks::marked(m, k) {
@@ -182,20 +184,12 @@ pub fn enter_sound(t: &[u32], in_range: bool) -> Gate
     }
 }
 
-// An accepted call that says one number and changes nothing.
-pub fn told(t: &[u32], value: u64) -> Answer
-    requires { ⌜ Headed (now t) ⌝ }
-    ensures { λ r. ⌜ r ≡ accepted (word (now (t .entry)) changeWord) value 0 0 ⌝ }
-{
-    gate::accept(words::long(words::change(t)), value, 0, 0)
-}
-
 // check: whether the table is sound.
 pub fn check(t: &[u32]) -> Answer
-    ensures { λ r. ⌜ r ≡ checkAnswer (now (t .entry)) ⌝ }
+    ensures { λ r. ⌜ Promise Check (now (t .entry)) r (now (t .entry)) ⌝ }
 {
     match enter_sound(t, true) {
         Gate::Shut(why) => gate::refuse(why),
-        Gate::Open(_) => told(t, 0),
+        Gate::Open(_) => gate::told(t, 0),
     }
 }

@@ -1,3 +1,2 @@
 -- Laws of the walks of the sums.
-pub mod Down
 pub mod Walks

@@ -1,21 +1,23 @@
 -- What each sum is at a slot, from those of its two sides; and how large it can be. Assumes nothing.
-use Prim.Native.Nat.{ℕ, suc, _+_, _-_, _*_, _≤_, _<_}
-use mathlib.Core.Path.{_≡_, refl, sym, ap, subst, _∙_}
+use Prim.Native.Nat.{ℕ, suc, _+_, _-_, _*_, _≤_}
+use mathlib.Core.Path.{_≡_, sym, ap, _∙_}
 use mathlib.Core.Bool.{Bool, true, false, not, cond, _&&_}
 use mathlib.Core.List.{List}
 use native.Mathlib.Omega.{arith}
 use lib.Dec.{leb, eqb}
-use borrow.Author.Tests.{leb-true, le-leb, lt-leb}
+use borrow.Author.Tests.{leb-true}
 use Rattle.scope.proofs.Bools.{and-l, and-r}
+use Rattle.scope.specs.Numbers.{mostSlots}
 use Rattle.scope.specs.Table.{slotAt}
 use Rattle.scope.specs.Fit.{stateOk, piecesOk, fitSlot}
-use Rattle.scope.specs.Tree.{Tree, leaf, node, size, trueHeight, over, Above, Ordered}
+use Rattle.scope.specs.Tree.{Tree, leaf, node, size, trueHeight, over}
 use Rattle.scope.specs.Sound.{Spells, batchAt}
 use Rattle.scope.specs.Sums.{totalOf}
 use Rattle.scope.specs.declared.slot.Slot.{Slot}
-use Rattle.total.specs.declared.Fork.{Fork}
-use Rattle.total.specs.Hangs.{Says, Adding, totalOn}
-use Rattle.total.proofs.Down.{Forked, said-at, says-leaf, says-fork}
+use Rattle.fork.specs.declared.Fork.{Fork}
+use Rattle.fork.specs.Hangs.{Says}
+use Rattle.total.specs.Adding.{Adding, countedOf, totalOn}
+use Rattle.fork.proofs.Down.{Forked, said-at, says-leaf, says-fork}
 
 pub height-most : (T : Tree) → trueHeight T ≤ size T
 unfolding trueHeight size
@@ -47,16 +49,9 @@ total-most t c K x (node d a b l r) p =
       total-most t c K (slotAt t x .right) r (p .right),
     )
 
--- where every key is above b, none is at most K if K is at most b: the total is 0
-none-above : (K b : ℕ) (T : Tree) → K ≤ b → Above b T → totalOf K T ≡ 0
-unfolding totalOf Above
-none-above K b leaf le p = refl
-none-above K b (node d u v l r) le p =
-    simp (lt-leb (d .key) K (omega (arith, p .0)), none-above K b l le (p .1), none-above K b r le (p .2))
-
 module _ {t : List ℕ} {more x : ℕ} {f : Fork} (d : Forked t more x f) where
   module _ {a b : ℕ} (sa : Says t (f .left) trueHeight a) (sb : Says t (f .right) trueHeight b) where
-    pub heights-few : (a ≤ 4095) × (b ≤ 4095)
+    pub heights-few : (a ≤ mostSlots) × (b ≤ mostSlots)
     heights-few =
         omega (
           arith,
@@ -87,31 +82,16 @@ module _ {t : List ℕ} {more x sum : ℕ} {f : Fork} (g : Adding t more x sum) 
   unfolding size
   sizes = ap size here ∙ omega arith
 
-  -- the keys on its right are above its own, and both sides are in order
-  sorted : Above (slotAt t x .key) (d .on-right .tree) × Ordered (d .on-left .tree) × Ordered (d .on-right .tree)
-  unfolding Ordered
-  sorted = let o = subst Ordered here (g .order) in (o .1, o .2, o .3)
-
   pub left-room : Adding t (more - 1) (f .left) sum
-  left-room = record { hangs = d .on-left; order = sorted .1; room = omega (arith, g .room, sizes) }
+  left-room = record { hangs = d .on-left; room = omega (arith, g .room, sizes) }
 
   module _ (K : ℕ) {a : ℕ} (sa : Says t (f .left) (totalOn sum K) a) where
-    -- where the slot's key is above K, the left side is all that counts
-    pub total-left : K < f .slot .key → Says t x (totalOn sum K) a
-    unfolding totalOf
-    total-left lt =
-        let key : K < slotAt t x .key = rw (sym (d .slot)) lt in
-        let none = none-above K (slotAt t x .key) (d .on-right .tree) (omega (arith, key)) (sorted .0) in
-        says-fork (totalOn sum K) d
-        (simp (lt-leb (slotAt t x .key) K key, none) (omega (arith, said-at (d .on-left) (totalOn sum K) sa)))
-
-    module _ {own : ℕ} (eo : own ≡ f .slot .pieces) where
+    module _ {own : ℕ} (eo : own ≡ countedOf K (f .slot .key) (f .slot .pieces)) where
       pub right-room : Adding t (more - 1) (f .right) (a + own)
       right-room =
           let l = d .on-left in
           record {
             hangs = d .on-right;
-            order = sorted .2;
             room = omega (
               arith,
               g .room,
@@ -119,15 +99,14 @@ module _ {t : List ℕ} {more x sum : ℕ} {f : Fork} (g : Adding t more x sum) 
               eo,
               said-at l (totalOn sum K) sa,
               total-most t (l .slots) K (f .left) (l .tree) (l .reached),
+              own-most (leb (f .slot .key) K) (f .slot .pieces),
               pieces-most (d .c) (f .slot) (d .fit),
             );
           }
 
-      pub total-here : f .slot .key ≤ K → {r : ℕ} → Says t (f .right) (totalOn (a + own) K) r → Says t x (totalOn sum K) r
+      pub total-here : {r : ℕ} → Says t (f .right) (totalOn (a + own) K) r → Says t x (totalOn sum K) r
       unfolding totalOf
-      total-here le sr =
-          let key : slotAt t x .key ≤ K = rw (sym (d .slot)) le in
-          let is : own ≡ slotAt t x .pieces = rw (sym (d .slot)) eo in
+      total-here sr =
+          let is : own ≡ countedOf K (slotAt t x .key) (slotAt t x .pieces) = rw (sym (d .slot)) eo in
           says-fork (totalOn sum K) d
-          (simp (le-leb (slotAt t x .key) K key)
-          (omega (arith, is, said-at (d .on-left) (totalOn sum K) sa, said-at (d .on-right) (totalOn (a + own) K) sr)))
+          (omega (arith, is, said-at (d .on-left) (totalOn sum K) sa, said-at (d .on-right) (totalOn (a + own) K) sr))

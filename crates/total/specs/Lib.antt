@@ -1,2 +1,2 @@
 -- What the walks of the sums ask of a table and promise.
-pub mod Hangs
+pub mod Adding

@@ -1,6 +1,4 @@
-// Sums over a sound table: the true height and the total, each by a walk down from the root.
-// The height's walk goes to both sides of every slot. The total's leaves out a right side where no key can count: where
-// a slot's own key is too large, all keys to its right are too.
+// Sums over a sound table: the true height and the total, each by a walk down from the root to both sides of every slot.
 // A walk is two functions, at a slot and at a link, which may be empty. It starts at the root's slot: entered there,
 // the test of a link is compiled into the slot above it, and an empty link costs no call.
 use scope::Answer;
@@ -8,33 +6,18 @@ use scope::Gate;
 use scope::Slot;
 ghost use mathlib.Core.Path.{_≡_};
 ghost use Prim.Native.Nat.{_+_, _≤_, _<_};
-ghost use Rattle.scope.specs.Table.{InTable};
+ghost use Rattle.scope.specs.Numbers.{mostSlots};
 ghost use Rattle.scope.specs.Tree.{over, trueHeight};
 ghost use Rattle.scope.specs.Sound.{treeIn};
-ghost use Rattle.scope.specs.Sums.{totalOf, totalAnswer};
+ghost use Rattle.scope.specs.Sums.{totalOf};
+ghost use Rattle.scope.specs.Calls.{Total, Promise};
 ghost use Rattle.spelling.specs.Whole.{Whole};
-ghost use Rattle.total.specs.Hangs.{Hangs, Says, forkAt, heightAnswer, Adding, totalOn};
-
-// A slot with its two sons.
-pub struct Fork {
-    pub slot: Slot,
-    pub left: usize,
-    pub right: usize,
-}
-
-pub fn fork_at(t: &[u32], x: usize) -> Fork
-    requires { ⌜ InTable (now t) x ⌝ }
-    ensures { λ r. ⌜ r ≡ forkAt (now (t .entry)) x ⌝ }
-{
-    let slot = words::slot_at(t, x);
-    let left = words::wide(slot.left);
-    let right = words::wide(slot.right);
-    Fork { slot, left, right }
-}
+ghost use Rattle.fork.specs.Hangs.{Hangs, Says};
+ghost use Rattle.total.specs.Adding.{heightAnswer, Adding, countedOf, totalOn};
 
 // One more than the larger of two heights.
 pub fn over(a: usize, b: usize) -> usize
-    requires { ⌜ (a ≤ 4095) × (b ≤ 4095) ⌝ }
+    requires { ⌜ (a ≤ mostSlots) × (b ≤ mostSlots) ⌝ }
     ensures { λ r. ⌜ r ≡ over a b ⌝ }
 {
     if a < b { b + 1 } else { a + 1 }
@@ -45,7 +28,7 @@ pub fn height_at(t: &[u32], more: usize, x: usize) -> usize
     requires { ⌜ (1 ≤ x) × Hangs (now t) more x ⌝ }
     ensures { λ r. ⌜ Says (now (t .entry)) x trueHeight r ⌝ }
 {
-    let f = fork_at(t, x);
+    let f = fork::fork_at(t, x);
     let less = more - 1;
     let a = height_under(t, less, f.left);
     let b = height_under(t, less, f.right);
@@ -76,7 +59,18 @@ pub fn height(t: &[u32]) -> Answer
 {
     match sound::enter_sound(t, true) {
         Gate::Shut(why) => gate::refuse(why),
-        Gate::Open(c) => sound::told(t, words::size(height_in(t, c))),
+        Gate::Open(c) => gate::told(t, words::size(height_in(t, c))),
+    }
+}
+
+// What a record counts of a total: its pieces, if its key is at most `key`.
+pub fn counted(s: Slot, key: u32) -> u64
+    ensures { λ r. ⌜ r ≡ countedOf key (s .key) (s .pieces) ⌝ }
+{
+    if s.key <= key {
+        words::long(s.pieces)
+    } else {
+        0
     }
 }
 
@@ -85,15 +79,11 @@ pub fn total_at(t: &[u32], more: usize, x: usize, key: u32, sum: u64) -> u64
     requires { ⌜ (1 ≤ x) × Adding (now t) more x sum ⌝ }
     ensures { λ r. ⌜ Says (now (t .entry)) x (totalOn sum key) r ⌝ }
 {
-    let f = fork_at(t, x);
+    let f = fork::fork_at(t, x);
     let less = more - 1;
     let slot = f.slot;
     let a = total_under(t, less, f.left, key, sum);
-    if slot.key <= key {
-        total_under(t, less, f.right, key, a + words::long(slot.pieces))
-    } else {
-        a
-    }
+    total_under(t, less, f.right, key, a + counted(slot, key))
 }
 
 // The same at a link, which may be empty.
@@ -124,10 +114,10 @@ pub fn total_in(t: &[u32], c: usize, key: u32) -> u64
 
 // total: the pieces of all records with a key of at most `key`.
 pub fn total(t: &[u32], key: u32) -> Answer
-    ensures { λ r. ⌜ r ≡ totalAnswer (now (t .entry)) key ⌝ }
+    ensures { λ r. ⌜ Promise (Total key) (now (t .entry)) r (now (t .entry)) ⌝ }
 {
     match sound::enter_sound(t, true) {
         Gate::Shut(why) => gate::refuse(why),
-        Gate::Open(c) => sound::told(t, total_in(t, c, key)),
+        Gate::Open(c) => gate::told(t, total_in(t, c, key)),
     }
 }

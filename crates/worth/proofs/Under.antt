@@ -4,6 +4,7 @@ use mathlib.Core.Path.{_≡_, ap, _∙_}
 use mathlib.Core.List.{List}
 use native.Mathlib.Omega.{arith}
 use Rattle.scope.specs.Table.{word, rootWord, countWord}
+use Rattle.scope.specs.Numbers.{mostSlots}
 use Rattle.scope.specs.Tree.{Batch, Tree, node, size, over}
 use Rattle.scope.specs.Sound.{batchAt, treeIn}
 use Rattle.scope.specs.Worth.{worthOf}
@@ -11,10 +12,10 @@ use Rattle.scope.specs.declared.slot.Slot.{Slot}
 use Rattle.spelling.proofs.Laws.{fit-left, fit-right, header-count}
 use Rattle.spelling.specs.Whole.{Whole}
 use Rattle.spelling.proofs.Spell.{tree-in}
-use Rattle.total.specs.declared.Fork.{Fork}
-use Rattle.total.specs.Hangs.{Hangs, Says}
-use Rattle.total.proofs.Down.{Forked, said-at, says-leaf, says-fork, said}
-use Rattle.worth.specs.Weight.{weightOf, loadOf, joined, topOf, Laden, Bearable}
+use Rattle.fork.specs.declared.Fork.{Fork}
+use Rattle.fork.specs.Hangs.{Hangs, Says}
+use Rattle.fork.proofs.Down.{Forked, said-at, says-leaf, says-fork, said}
+use Rattle.worth.specs.Weight.{unit, weightOf, loadOf, joined, topOf, Laden, Bearable}
 use Rattle.worth.proofs.Weight.{weight-leaf, weight-node, weight-most, weight-worth}
 
 -- nothing weighs nothing
@@ -24,21 +25,21 @@ weigh-leaf t x n above e c T p = omega (arith, weight-leaf n above) ∙ says-lea
 
 -- what a walk said
 load-is : {t : List ℕ} {more x : ℕ} (k : Hangs t more x) (n g : ℕ) {a : ℕ} → Says t x (loadOf n g) a
-    → a ≡ 4096 * weightOf n g (k .tree) + size (k .tree)
+    → a ≡ unit * weightOf n g (k .tree) + size (k .tree)
 unfolding loadOf
 load-is k n g s = said-at k (loadOf n g) s
 
 -- the slots of two sides and the one over them
-count-is : (u v p q : ℕ) → p + q < 4095 → ((4096 * u + p) + (4096 * v + q) + 1) % 4096 ≡ p + q + 1
+count-is : (u v p q : ℕ) → p + q < mostSlots → ((unit * u + p) + (unit * v + q) + 1) % unit ≡ p + q + 1
 count-is u v p q h = omega arith
 
 -- what the code joins is the load of the node
-joined-is : (s : Slot) (n above a b : ℕ) (d : Batch) (L R : Tree) → size L + size R < 4095
-    → a ≡ 4096 * weightOf n (s .lefth) L + size L → b ≡ 4096 * weightOf n (s .righth) R + size R
+joined-is : (s : Slot) (n above a b : ℕ) (d : Batch) (L R : Tree) → size L + size R < mostSlots
+    → a ≡ unit * weightOf n (s .lefth) L + size L → b ≡ unit * weightOf n (s .righth) R + size R
     → joined s n above a b ≡ loadOf n above (node d (s .lefth) (s .righth) L R)
 unfolding loadOf size
 joined-is s n above a b d L R few ea eb =
-    let e : (a + b + 1) % 4096 ≡ size (node d (s .lefth) (s .righth) L R) =
+    let e : (a + b + 1) % unit ≡ size (node d (s .lefth) (s .righth) L R) =
     omega (arith, count-is (weightOf n (s .lefth) L) (weightOf n (s .righth) R) (size L) (size R) few) in
     rw e (omega (arith, weight-node n above d (s .lefth) (s .righth) L R))
 
@@ -69,7 +70,7 @@ module _ {t : List ℕ} {more x : ℕ} {f : Fork} (d : Forked t more x f) where
           let v : ℕ = weightOf n h (r .tree) in
           let ea = load-is l n g sa in
           let eb = load-is r n h sb in
-          let below-most : size (l .tree) + size (r .tree) < 4095 = omega (arith, few-below, w .most) in
+          let below-most : size (l .tree) + size (r .tree) < mostSlots = omega (arith, few-below, w .most) in
           record {
             light = record { left = registers .0; right = registers .1; outside = w .most; over-it = w .over-it };
             few = omega (arith, few-below, count-is u v (size (l .tree)) (size (r .tree)) below-most);
@@ -94,13 +95,13 @@ module _ {t : List ℕ} {more x : ℕ} {f : Fork} (d : Forked t more x f) where
 -- the whole table
 module _ {t : List ℕ} {c x : ℕ} (w : Whole t c) (ex : x ≡ word t rootWord) where
   pub worth-whole : {n m g all : ℕ} → n ≡ m → m ≡ word t countWord → Says t x topOf g → Says t x (loadOf n g) all
-      → all / 4096 ≡ worthOf (treeIn t c)
+      → all / unit ≡ worthOf (treeIn t c)
   unfolding loadOf
   worth-whole {n} {m} {g} em ec sg sn =
       let T : Tree = treeIn t c in
       let eg : g ≡ topOf T = said w ex topOf sg in
       let en : n ≡ size T = cc (em, ec, w .sound .count, ap size (tree-in t c (w .sound))) in
-      let few : size T ≤ 4095 = omega (arith, em, ec, w .sized .most, header-count c t (w .sound .header)) in
+      let few : size T ≤ mostSlots = omega (arith, em, ec, w .sized .most, header-count c t (w .sound .header)) in
       let is : weightOf n g T ≡ worthOf T = cc (eg, en, weight-worth T) in
       let load = said w ex (loadOf n g) sn in
       omega arith

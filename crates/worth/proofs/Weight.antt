@@ -5,6 +5,7 @@ use mathlib.Core.List.{List}
 use native.Mathlib.Nat.{mul-le-mul-left, mul-zero, sub-eq-zero-of-le}
 use native.Mathlib.Omega.{arith}
 use Rattle.scope.specs.Table.{slotAt}
+use Rattle.scope.specs.Numbers.{mostSlots}
 use Rattle.scope.specs.Tree.{Batch, Tree, leaf, node, size, over}
 use Rattle.scope.specs.Worth.{gap, negOf, posOf, NEG, POS, BAL, RBAL, worthOf}
 use Rattle.scope.specs.Sound.{Spells}
@@ -13,14 +14,14 @@ use Rattle.spelling.proofs.Laws.{fit-left, fit-right}
 use Rattle.worth.specs.Weight.{weightOf, ownWeight, topOf}
 
 -- a product of a count and a height
-pub product : (o h : ℕ) → o ≤ 4095 → h ≤ 65536 → o * h ≤ 268369920
+pub product : (o h : ℕ) → o ≤ mostSlots → h ≤ 65536 → o * h ≤ 268369920
 product o h p q = let le = mul-le-mul-left o q in omega arith
 
 -- no height is too low
 pub no-product : (o h g : ℕ) → h ≤ g → o * (h - g) ≡ 0
 no-product o h g p = ap (λ (x : ℕ). o * x) (sub-eq-zero-of-le p) ∙ mul-zero o
 
-pub own-most : (a b o g : ℕ) → a ≤ 65535 → b ≤ 65535 → o ≤ 4095 → g ≤ 65536 → ownWeight a b o g ≤ 2000000000
+pub own-most : (a b o g : ℕ) → a ≤ 65535 → b ≤ 65535 → o ≤ mostSlots → g ≤ 65536 → ownWeight a b o g ≤ 2000000000
 unfolding ownWeight
 own-most a b o g pa pb po pg = let h = product o (over a b - g) po (omega arith) in omega arith
 
@@ -48,7 +49,7 @@ unfolding weightOf negOf posOf NEG POS BAL RBAL
 weight-leaf n above = refl
 
 -- at most two thousand million for each slot
-pub weight-most : (t : List ℕ) (c x n above : ℕ) (T : Tree) → Spells t c x T → n ≤ 4095 → above ≤ 65536
+pub weight-most : (t : List ℕ) (c x n above : ℕ) (T : Tree) → Spells t c x T → n ≤ mostSlots → above ≤ 65536
     → weightOf n above T ≤ 2000000000 * size T
 unfolding Spells size
 weight-most t c x n above leaf p h g = omega (arith, weight-leaf n above)

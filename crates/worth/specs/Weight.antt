@@ -1,10 +1,11 @@
 -- What a tree weighs, with n nodes in all and a register above it. Assumes nothing: these are definitions.
 use Prim.Native.Nat.{ℕ, _+_, _-_, _*_, _%_, _≤_}
 use mathlib.Core.List.{List}
+use Rattle.scope.specs.Numbers.{mostSlots}
 use Rattle.scope.specs.Tree.{Tree, leaf, node, size, over}
 use Rattle.scope.specs.Worth.{gap, negOf, posOf, NEG, POS, BAL, RBAL}
 use Rattle.scope.specs.declared.slot.Slot.{Slot}
-use Rattle.total.specs.Hangs.{Hangs}
+use Rattle.fork.specs.Hangs.{Hangs}
 
 -- the four sums, the carry of the tree's own top counted too
 unfoldable pub weightOf : ℕ → ℕ → Tree → ℕ
@@ -15,14 +16,18 @@ unfoldable pub ownWeight : ℕ → ℕ → ℕ → ℕ → ℕ
 ownWeight a b out above =
     6 * (out * (over a b - above) + (above - over a b)) + (2 * gap a b + (gap a b - 1))
 
+-- what weights are counted in: more than there can be slots
+abbrev pub unit : ℕ
+unit = mostSlots + 1
+
 -- weight and size as one number
 unfoldable pub loadOf : ℕ → ℕ → Tree → ℕ
-loadOf n above T = 4096 * weightOf n above T + size T
+loadOf n above T = unit * weightOf n above T + size T
 
 -- a slot over its two sides
 abbrev pub joined : Slot → ℕ → ℕ → ℕ → ℕ → ℕ
 joined s n above a b =
-    4096 * ownWeight (s .lefth) (s .righth) (n - (a + b + 1) % 4096) above + (a + b + 1)
+    unit * ownWeight (s .lefth) (s .righth) (n - (a + b + 1) % unit) above + (a + b + 1)
 
 -- the height that the root's registers show, under which the root has no carry
 unfoldable pub topOf : Tree → ℕ
@@ -33,19 +38,19 @@ topOf (node d a b l r) = over a b
 pub record Light (s : Slot) (out above : ℕ) : Type 0 where
   pub left : s .lefth ≤ 65535
   pub right : s .righth ≤ 65535
-  pub outside : out ≤ 4095
+  pub outside : out ≤ mostSlots
   pub over-it : above ≤ 65536
 
 -- so are those of two sides, and what they weigh
 pub record Laden (s : Slot) (n above a b : ℕ) : Type 0 where
   pub light : Light s n above
-  pub few : (a + b + 1) % 4096 ≤ n
+  pub few : (a + b + 1) % unit ≤ n
   pub sum : a + b ≤ 40000000000000000
 
 -- a walk of at most `more` of n slots, under a register in range
 pub record Bearable (more n above : ℕ) : Type 0 where
   pub few : more ≤ n
-  pub most : n ≤ 4095
+  pub most : n ≤ mostSlots
   pub over-it : above ≤ 65536
 
 -- a tree hangs at link x

@@ -2,17 +2,20 @@
 use scope::Answer;
 use scope::Gate;
 use scope::Slot;
+use scope::Slots;
 ghost use mathlib.Core.Path.{_≡_};
 ghost use Prim.Native.Nat.{_+_, _-_, _*_, _≤_, _<_};
+ghost use Rattle.scope.specs.Numbers.{mostSlots};
 ghost use Rattle.scope.specs.Tree.{over};
 ghost use Rattle.scope.specs.Sound.{treeIn};
-ghost use Rattle.scope.specs.Worth.{gap, worthOf, worthAnswer};
+ghost use Rattle.scope.specs.Worth.{gap, worthOf};
+ghost use Rattle.scope.specs.Calls.{Worth, Promise};
 ghost use Rattle.spelling.specs.Whole.{Whole};
-ghost use Rattle.total.specs.Hangs.{Hangs, Says};
+ghost use Rattle.fork.specs.Hangs.{Hangs, Says};
 ghost use Rattle.worth.specs.Weight.{ownWeight, loadOf, joined, topOf, Light, Laden, Bearable, Rooted};
 
 // What hangs at a link, as one number: its weight in units, and how many slots it is, which is less than a unit.
-pub const UNIT: u64 = 4096;
+pub const UNIT: u64 = Slots::MOST as u64 + 1;
 
 // How far two heights are apart.
 pub fn gap(a: u64, b: u64) -> u64
@@ -32,7 +35,7 @@ pub fn localh(s: Slot) -> u64
 
 // What a carry weighs: `out` slots outside, the local height, the register above it.
 pub fn carry(out: u64, high: u64, above: u64) -> u64
-    requires { ⌜ (out ≤ 4095) × (high ≤ 65536) × (above ≤ 65536) ⌝ }
+    requires { ⌜ (out ≤ mostSlots) × (high ≤ 65536) × (above ≤ 65536) ⌝ }
     ensures { λ r. ⌜ (r ≡ out * (high - above) + (above - high)) × (r ≤ 268500000) ⌝ }
 {
     if above < high {
@@ -75,7 +78,7 @@ pub fn weigh_at(t: &[u32], more: usize, x: usize, n: u64, above: u64) -> u64
     requires { ⌜ (1 ≤ x) × Hangs (now t) more x × Bearable more n above ⌝ }
     ensures { λ r. ⌜ Says (now (t .entry)) x (loadOf n above) r ⌝ }
 {
-    let f = total::fork_at(t, x);
+    let f = fork::fork_at(t, x);
     let less = more - 1;
     let slot = f.slot;
     let a = weigh_under(t, less, f.left, n, words::long(slot.lefth));
@@ -123,10 +126,10 @@ pub fn worth_in(t: &[u32], c: usize) -> u64
 
 // worth: how far the registers are from those of a balanced tree.
 pub fn worth(t: &[u32]) -> Answer
-    ensures { λ r. ⌜ r ≡ worthAnswer (now (t .entry)) ⌝ }
+    ensures { λ r. ⌜ Promise Worth (now (t .entry)) r (now (t .entry)) ⌝ }
 {
     match sound::enter_sound(t, true) {
         Gate::Shut(why) => gate::refuse(why),
-        Gate::Open(c) => sound::told(t, worth_in(t, c)),
+        Gate::Open(c) => gate::told(t, worth_in(t, c)),
     }
 }

@@ -3,7 +3,7 @@ use Prim.Native.Nat.{ℕ, _+_, _*_, _<_}
 use native.Mathlib.Omega.{arith}
 use borrow.Fn.Kinds.{In}
 use borrow.Fn.PlainCycle.{Measures, is, falls, and}
-use Rattle.total.proofs.Down.{Forked, in-reach, forked}
+use Rattle.fork.proofs.Down.{Forked, in-reach, forked}
 use Rattle.rank.proofs.Seeking.{rank-leaf, seek-left, seek-here, seek-right}
 use Rattle.rank.proofs.rank_at.Reads as at
 use Rattle.rank.proofs.rank_at.Kinds as at-kinds
@@ -11,7 +11,7 @@ use Rattle.rank.proofs.+rank_at+rank_under.Lts-rank_at as at-lts
 use Rattle.rank.proofs.rank_under.Reads as under
 use Rattle.rank.proofs.rank_under.Kinds as under-kinds
 use Rattle.rank.proofs.+rank_at+rank_under.Lts-rank_under as under-lts
-use Rattle.total.proofs.fork_at.Reads as fork-at-reads
+use Rattle.fork.proofs.fork_at.Reads as fork-at-reads
 use Rattle.rank.proofs.+rank_at+rank_under.{statement}
 use Rattle.rank.proofs.+rank_at+rank_under.Tie.{close}
 

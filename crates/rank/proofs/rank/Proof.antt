@@ -1,5 +1,5 @@
 -- `rank::rank` meets its contract. Assumes nothing.
-use mathlib.Core.Path.{sym}
+use mathlib.Core.Path.{refl, sym}
 use native.Mathlib.Omega.{arith}
 use lib.Dec.{eqb}
 use borrow.Author.Tests.{eqb-false, not-true}
@@ -47,7 +47,7 @@ returns c =
       c .before .before .why .given .1,
       sym
           (c .refuse .ensures),
-    )
+    ) (refl, refl)
 
 returns-2 : tie.Need-returns-2
 unfolding rankAnswer
@@ -58,7 +58,7 @@ returns-2 c =
       c .before .before .before .before .c .given .1,
       sym found,
       sym (c .ranked .ensures),
-    )
+    ) (refl, refl)
 
 pub rank-spec : {M : Type 1} → statement M
 rank-spec =

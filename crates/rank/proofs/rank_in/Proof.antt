@@ -2,8 +2,9 @@
 use Prim.Native.Nat.{_+_, _-_}
 use mathlib.Core.Path.{_≡_, _∙_}
 use native.Mathlib.Omega.{arith}
+use Rattle.scope.specs.Numbers.{mostSlots}
 use Rattle.scope.specs.Sums.{rankOf}
-use Rattle.total.proofs.Down.{rooted, said}
+use Rattle.fork.proofs.Down.{rooted, said}
 use Rattle.rank.proofs.Seeking.{rank-over, some-root}
 use borrow.Author.Needs.{needs}
 use Rattle.rank.proofs.rank_in.Statement.{statement}
@@ -41,7 +42,7 @@ returns-2 c =
     let v = c .before .before .before in
     let start = v .before .before .before in
     let r = start .args .r in
-    let e : r + 4095 - 4095 ≡ r = omega arith in
+    let e : r + mostSlots - mostSlots ≡ r = omega arith in
     let found = rw e at (c .before .rank-at .ensures .says) in
     c .rank-said .ensures ∙ said (start .pre .1) (c .before .before .root .ensures) (rankOf r) found
 

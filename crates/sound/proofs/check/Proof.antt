@@ -1,7 +1,7 @@
 -- `sound::check` meets its contract. Assumes nothing.
 use Rattle.scope.specs.Sums.{checkAnswer}
 use Rattle.spelling.proofs.Opened.{opened, headed}
-use mathlib.Core.Path.{sym}
+use mathlib.Core.Path.{refl, sym}
 use borrow.Author.Needs.{needs}
 use Rattle.sound.proofs.check.Statement.{statement}
 use Rattle.sound.proofs.check.Tie as tie
@@ -29,7 +29,7 @@ returns c =
       c .before .before .why .given .1,
       sym
           (c .refuse .ensures),
-    )
+    ) (refl, refl)
 
 returns-2 : tie.Need-returns-2
 unfolding checkAnswer
@@ -39,7 +39,7 @@ returns-2 c =
       c .before .enum-told .given .1,
       sym
           (c .told .ensures),
-    )
+    ) (refl, refl)
 
 pub check-spec : {M : Type 1} → statement M
 check-spec =

@@ -4,7 +4,7 @@ use native.Mathlib.Omega.{arith}
 use borrow.Fn.Kinds.{In}
 use borrow.Fn.PlainCycle.{Measures, is, falls, and}
 use Rattle.scope.specs.Tree.{trueHeight}
-use Rattle.total.proofs.Down.{Forked, in-reach, forked, says-leaf}
+use Rattle.fork.proofs.Down.{Forked, in-reach, forked, says-leaf}
 use Rattle.total.proofs.Walks.{heights-few, height-here}
 use Rattle.total.proofs.height_at.Reads as at
 use Rattle.total.proofs.height_at.Kinds as at-kinds
@@ -12,7 +12,7 @@ use Rattle.total.proofs.+height_at+height_under.Lts-height_at as at-lts
 use Rattle.total.proofs.height_under.Reads as under
 use Rattle.total.proofs.height_under.Kinds as under-kinds
 use Rattle.total.proofs.+height_at+height_under.Lts-height_under as under-lts
-use Rattle.total.proofs.fork_at.Reads as fork-at-reads
+use Rattle.fork.proofs.fork_at.Reads as fork-at-reads
 use Rattle.total.proofs.over.Reads as over-reads
 use Rattle.total.proofs.+height_at+height_under.{statement}
 use Rattle.total.proofs.+height_at+height_under.Tie.{close}

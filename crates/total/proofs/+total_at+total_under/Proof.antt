@@ -4,16 +4,16 @@ use native.Mathlib.Omega.{arith}
 use borrow.Author.Needs.{needs}
 use borrow.Fn.Kinds.{In}
 use borrow.Fn.PlainCycle.{Measures, is, falls, and}
-use Rattle.total.proofs.Down.{Forked, in-reach, forked}
-use Rattle.total.proofs.Walks.{nothing-added, left-room, right-room, total-left, total-here}
+use Rattle.fork.proofs.Down.{Forked, in-reach, forked}
+use Rattle.total.proofs.Walks.{nothing-added, left-room, right-room, total-here}
 use Rattle.total.proofs.total_at.Reads as at
 use Rattle.total.proofs.total_at.Kinds as at-kinds
 use Rattle.total.proofs.+total_at+total_under.Lts-total_at as at-lts
 use Rattle.total.proofs.total_under.Reads as under
 use Rattle.total.proofs.total_under.Kinds as under-kinds
 use Rattle.total.proofs.+total_at+total_under.Lts-total_under as under-lts
-use Rattle.total.proofs.fork_at.Reads as fork-at-reads
-use Rattle.words.proofs.long.Reads as long-reads
+use Rattle.fork.proofs.fork_at.Reads as fork-at-reads
+use Rattle.total.proofs.counted.Reads as counted-reads
 use Rattle.total.proofs.+total_at+total_under.{statement}
 use Rattle.total.proofs.+total_at+total_under.Tie.{close}
 
@@ -42,8 +42,8 @@ sides : (t : ℕ) (c : at-lts.After-fork-at (
   fork-at-reads.Learnt,
   under-below t,
   under.Post,
-  long-reads.Asked,
-  long-reads.Learnt,
+  counted-reads.Asked,
+  counted-reads.Learnt,
 ) (at-now t) at.Post)
     → let start = c .before .before .args in Forked (start .t .now) (start .more) (start .x) (c .fork-at .result)
 sides t c =
@@ -56,8 +56,8 @@ pub +total-at+total-under-spec : {M : Type 1} → statement M
   fork-at-reads.Learnt,
   under-below t,
   under.Post,
-  long-reads.Asked,
-  long-reads.Learnt,
+  counted-reads.Asked,
+  counted-reads.Learnt,
 )
     (at-now t)
     at.Post
@@ -70,34 +70,25 @@ pub +total-at+total-under-spec : {M : Type 1} → statement M
     let v = c .before in
     let d = sides t v in
     (omega (arith, v .before .before .pre .0, d .some), left-room (v .before .before .pre .1 .1) d))
-    -- long-requires
+    -- counted-requires
     (λ c κs. search needs)
     -- add-total-under
     (λ c.
-    let w = c .before .before .before in
-    let v = w .before .before in
-    omega (
-      arith,
-      right-room (v .before .before .pre .1 .1) (sides t v) _ (w .total-under .ensures) (c .long .ensures) .room,
-    ))
+    let v = c .before .before .before in
+    let room = right-room (v .before .before .pre .1 .1) (sides t v) _ (c .before .total-under .ensures) (c .counted .ensures) in
+    omega (arith, room .room))
     -- total-under-requires-2
     (λ c κs.
-    let w = c .before .before .before in
-    let v = w .before .before in
+    let v = c .before .before .before in
     let d = sides t v in
     let start = v .before .before in
-    (omega (arith, start .pre .0, d .some), right-room (start .pre .1 .1) d _ (w .total-under .ensures) (c .long .ensures)))
+    let room = right-room (start .pre .1 .1) d _ (c .before .total-under .ensures) (c .counted .ensures) in
+    (omega (arith, start .pre .0, d .some), room))
     -- returns
     (λ c.
-    let w = c .before .before .before .before in
-    let v = w .before .before in
-    total-here (v .before .before .pre .1 .1) (sides t v) _ (w .total-under .ensures) (c .before .long .ensures)
-    (omega (arith, c .before .before .if1 .taken)) (c .total-under2 .ensures))
-    -- returns-2
-    (λ c.
-    let w = c .before .before in
-    let v = w .before .before in
-    total-left (v .before .before .pre .1 .1) (sides t v) _ (w .total-under .ensures) (omega (arith, c .if1 .left))))
+    let v = c .before .before .before .before in
+    total-here (v .before .before .pre .1 .1) (sides t v) _ (c .before .before .total-under .ensures) (c .before .counted .ensures)
+    (c .total-under2 .ensures)))
     λ t. under-lts.spec
     (at-below t, at.Post)
     (under-now t)

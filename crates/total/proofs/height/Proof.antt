@@ -1,6 +1,6 @@
 -- `total::height` meets its contract. Assumes nothing.
 use Rattle.spelling.proofs.Opened.{opened, headed}
-use Rattle.total.specs.Hangs.{heightAnswer}
+use Rattle.total.specs.Adding.{heightAnswer}
 use mathlib.Core.Path.{sym}
 use borrow.Author.Needs.{needs}
 use Rattle.total.proofs.height.Statement.{statement}

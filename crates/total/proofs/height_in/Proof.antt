@@ -1,7 +1,7 @@
 -- `total::height_in` meets its contract. Assumes nothing.
 use native.Mathlib.Omega.{arith}
 use Rattle.scope.specs.Tree.{trueHeight}
-use Rattle.total.proofs.Down.{rooted, said, says-leaf}
+use Rattle.fork.proofs.Down.{rooted, said, says-leaf}
 use borrow.Author.Needs.{needs}
 use Rattle.total.proofs.height_in.Statement.{statement}
 use Rattle.total.proofs.height_in.Tie as tie

@@ -1,8 +1,8 @@
 -- `total::total_in` meets its contract. Assumes nothing.
 use native.Mathlib.Omega.{arith}
 use Rattle.scope.specs.Sums.{totalOf}
-use Rattle.total.specs.Hangs.{totalOn}
-use Rattle.total.proofs.Down.{rooted, in-order, said, says-leaf}
+use Rattle.total.specs.Adding.{totalOn}
+use Rattle.fork.proofs.Down.{rooted, said, says-leaf}
 use borrow.Author.Needs.{needs}
 use Rattle.total.proofs.total_in.Statement.{statement}
 use Rattle.total.proofs.total_in.Tie as tie
@@ -18,8 +18,7 @@ total-at-requires c κs =
     let start = c .before .before .before .before in
     let at = c .before .root .ensures in
     let h = rooted (start .pre) at (c .before .before .records .ensures) in
-    let order = in-order (start .pre) at h in
-    (omega (arith, c .if1 .left), record { hangs = h; order = order; room = omega (arith, h .few, h .most) })
+    (omega (arith, c .if1 .left), record { hangs = h; room = omega (arith, h .few, h .most) })
 
 returns : tie.Need-returns
 unfolding totalOf

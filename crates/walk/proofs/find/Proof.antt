@@ -1,5 +1,5 @@
 -- `walk::find` meets its contract. Assumes nothing.
-use mathlib.Core.Path.{_∙_, sym}
+use mathlib.Core.Path.{refl, _∙_, sym}
 use borrow.Author.Needs.{needs}
 use Rattle.spelling.proofs.Laws.{gate-ready}
 use Rattle.scope.specs.Find.{findAnswer}
@@ -18,22 +18,23 @@ refuse-requires c κs = search needs
 enum-known-c : tie.Need-enum-known-c
 enum-known-c c = search needs
 
-descend-requires : tie.Need-descend-requires
-descend-requires c κs = gate-ready _ _ _ (sym (c .before .before .before .enter .ensures) ∙ c .before .c .given .1)
-
-outcome-requires : tie.Need-outcome-requires
-outcome-requires c κs = (gate-ready _ _ _ (sym (c .before .before .before .before .enter .ensures) ∙ c .before .before .c .given .1), c .descend .ensures)
+search-requires : tie.Need-search-requires
+search-requires c κs = gate-ready _ _ _ (sym (c .before .before .before .enter .ensures) ∙ c .before .c .given .1)
 
 found-requires : tie.Need-found-requires
-found-requires c κs = (gate-ready _ _ _ (sym (c .before .before .before .before .before .enter .ensures) ∙ c .before .before .before .c .given .1) .sized, c .outcome .ensures .inside)
+found-requires c κs =
+    let b = c .before .before in
+    (gate-ready _ _ _ (sym (b .before .before .enter .ensures) ∙ b .c .given .1) .sized, c .search .ensures .inside)
 
 returns : tie.Need-returns
 unfolding findAnswer
-returns c = simp (sym (c .before .before .before .before .enter .ensures), c .before .before .why .given .1, sym (c .refuse .ensures))
+returns c = let b = c .before .before in simp (sym (b .before .before .enter .ensures), b .why .given .1, sym (c .refuse .ensures)) (refl, refl)
 
 returns-2 : tie.Need-returns-2
 unfolding findAnswer
-returns-2 c = simp (sym (c .before .before .before .before .before .before .enter .ensures), c .before .before .before .before .c .given .1, sym (c .before .outcome .ensures .is), sym (c .found .ensures))
+returns-2 c =
+    let b = c .before .before .before in
+    simp (sym (b .before .before .enter .ensures), b .c .given .1, sym (c .before .search .ensures .is), sym (c .found .ensures)) (refl, refl)
 
 pub find-spec : {M : Type 1} → statement M
 find-spec =
@@ -43,8 +44,7 @@ find-spec =
     enum-known-why
     refuse-requires
     enum-known-c
-    descend-requires
-    outcome-requires
+    search-requires
     found-requires
     returns
     returns-2)

@@ -4,7 +4,7 @@ use native.Mathlib.Omega.{arith}
 use borrow.Author.Needs.{needs}
 use borrow.Fn.Kinds.{In}
 use borrow.Fn.PlainCycle.{Measures, is, falls, and}
-use Rattle.total.proofs.Down.{Forked, in-reach, forked}
+use Rattle.fork.proofs.Down.{Forked, in-reach, forked}
 use Rattle.worth.proofs.Under.{weigh-leaf, registers, bears, laden, weigh-here}
 use Rattle.worth.proofs.weigh_at.Reads as at
 use Rattle.worth.proofs.weigh_at.Kinds as at-kinds
@@ -12,7 +12,7 @@ use Rattle.worth.proofs.+weigh_at+weigh_under.Lts-weigh_at as at-lts
 use Rattle.worth.proofs.weigh_under.Reads as under
 use Rattle.worth.proofs.weigh_under.Kinds as under-kinds
 use Rattle.worth.proofs.+weigh_at+weigh_under.Lts-weigh_under as under-lts
-use Rattle.total.proofs.fork_at.Reads as fork-at-reads
+use Rattle.fork.proofs.fork_at.Reads as fork-at-reads
 use Rattle.worth.proofs.join.Reads as join-reads
 use Rattle.words.proofs.long.Reads as long-reads
 use Rattle.worth.proofs.+weigh_at+weigh_under.{statement}

@@ -3,7 +3,7 @@ use mathlib.Core.Path.{refl, ap, _∙_}
 use native.Mathlib.Omega.{arith}
 use Rattle.scope.specs.Tree.{over}
 use Rattle.scope.specs.declared.slot.Slot.{Slot}
-use Rattle.total.proofs.Down.{forked, says-leaf}
+use Rattle.fork.proofs.Down.{forked, says-leaf}
 use Rattle.worth.specs.Weight.{topOf}
 use Rattle.worth.proofs.Under.{top-here}
 use borrow.Author.Needs.{needs}

@@ -1,7 +1,7 @@
 -- `worth::worth` meets its contract. Assumes nothing.
 use Rattle.scope.specs.Worth.{worthAnswer}
 use Rattle.spelling.proofs.Opened.{opened, headed}
-use mathlib.Core.Path.{sym}
+use mathlib.Core.Path.{refl, sym}
 use borrow.Author.Needs.{needs}
 use Rattle.worth.proofs.worth.Statement.{statement}
 use Rattle.worth.proofs.worth.Tie as tie
@@ -33,7 +33,7 @@ returns c =
       c .before .before .why .given .1,
       sym
           (c .refuse .ensures),
-    )
+    ) (refl, refl)
 
 returns-2 : tie.Need-returns-2
 unfolding worthAnswer
@@ -43,7 +43,7 @@ returns-2 c =
       c .before .before .before .c .given .1,
       sym (c .before .worth-in .ensures),
       sym (c .told .ensures),
-    )
+    ) (refl, refl)
 
 pub worth-spec : {M : Type 1} → statement M
 worth-spec =

@@ -1,7 +1,7 @@
 -- `worth::worth_in` meets its contract. Assumes nothing.
 use mathlib.Core.Path.{refl}
 use native.Mathlib.Omega.{arith}
-use Rattle.total.proofs.Down.{rooted, says-leaf}
+use Rattle.fork.proofs.Down.{rooted, says-leaf}
 use Rattle.worth.specs.Weight.{topOf}
 use Rattle.worth.proofs.Under.{weigh-leaf, worth-whole}
 use borrow.Author.Needs.{needs}

@@ -1,8 +1,8 @@
--- `total::fork_at` meets its contract. Assumes nothing.
+-- `fork::fork_at` meets its contract. Assumes nothing.
 use mathlib.Core.Path.{sym}
 use borrow.Author.Needs.{needs}
-use Rattle.total.proofs.fork_at.Statement.{statement}
-use Rattle.total.proofs.fork_at.Tie as tie
+use Rattle.fork.proofs.fork_at.Statement.{statement}
+use Rattle.fork.proofs.fork_at.Tie as tie
 
 slot-at-requires : tie.Need-slot-at-requires
 slot-at-requires c κs = search needs

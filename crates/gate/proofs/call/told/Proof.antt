@@ -1,8 +1,8 @@
--- `sound::told` meets its contract. Assumes nothing.
+-- `gate::call::told` meets its contract. Assumes nothing.
 use mathlib.Core.Path.{sym}
 use borrow.Author.Needs.{needs}
-use Rattle.sound.proofs.told.Statement.{statement}
-use Rattle.sound.proofs.told.Tie as tie
+use Rattle.gate.proofs.call.told.Statement.{statement}
+use Rattle.gate.proofs.call.told.Tie as tie
 
 change-requires : tie.Need-change-requires
 change-requires c κs = search needs

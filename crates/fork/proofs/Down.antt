@@ -1,23 +1,24 @@
 -- One step down a hanging tree, for every walk of it; and the tree at the root. Assumes nothing.
 use Prim.Native.Nat.{ℕ, _+_, _-_, _≤_, _<_}
-use mathlib.Core.Path.{_≡_, refl, sym, ap, subst, _∙_}
+use mathlib.Core.Path.{_≡_, refl, sym, ap, _∙_}
 use mathlib.Core.Bool.{true}
 use mathlib.Core.List.{List}
 use native.Mathlib.Omega.{arith}
+use Rattle.scope.specs.Numbers.{mostSlots}
 use Rattle.scope.specs.Table.{word, rootWord, countWord, slotAt, InTable}
 use Rattle.scope.specs.Fit.{fitSlot}
-use Rattle.scope.specs.Tree.{Tree, leaf, node, size, Ordered}
+use Rattle.scope.specs.Tree.{Tree, leaf, node, size}
 use Rattle.scope.specs.Sound.{Spells, batchAt, treeIn}
 use Rattle.spelling.proofs.Laws.{in-table, fit-left, fit-right, header-root, header-count}
 use Rattle.spelling.specs.Whole.{Whole}
 use Rattle.spelling.proofs.Spell.{unique, tree-in}
-use Rattle.total.specs.declared.Fork.{Fork}
-use Rattle.total.specs.Hangs.{Hangs, Says, forkAt}
+use Rattle.fork.specs.declared.Fork.{Fork}
+use Rattle.fork.specs.Hangs.{Hangs, Says, forkAt}
 
 -- the slot at link x with what hangs below it
 pub record Forked (t : List ℕ) (more x : ℕ) (f : Fork) : Type 0 where
   pub some : 1 ≤ more
-  pub most : more ≤ 4095
+  pub most : more ≤ mostSlots
   pub c : ℕ
   pub slot : f .slot ≡ slotAt t x
   pub fit : fitSlot c (f .slot) ≡ true
@@ -97,12 +98,6 @@ module _ {t : List ℕ} {c x : ℕ} (w : Whole t c) (ex : x ≡ word t rootWord)
     reached = w .sound .reached;
     few = omega (arith, w .sound .count);
   })
-
-  -- its keys are in order
-  pub in-order : {n : ℕ} (h : Hangs t n x) → Ordered (h .tree)
-  in-order h =
-      let same = unique t c (h .slots) x (w .sound .tree) (h .tree) (rw ex (w .sound .reached)) (h .reached) in
-      subst Ordered same (w .sound .order)
 
   pub said : {A : Type 0} (f : Tree → A) {r : A} → Says t x f r → r ≡ f (treeIn t c)
   said f s = s c (w .sound .tree) (rw ex (w .sound .reached)) ∙ ap f (sym (tree-in t c (w .sound)))

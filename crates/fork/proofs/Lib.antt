@@ -1,0 +1,2 @@
+-- Laws of walks over both subtrees.
+pub mod Down

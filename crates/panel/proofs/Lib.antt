@@ -1,0 +1,2 @@
+-- What all calls for C have in common.
+pub mod Given
