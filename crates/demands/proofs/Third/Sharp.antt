@@ -10,9 +10,8 @@ use Rattle.tree.specs.Seek.{route}
 use Rattle.tree.proofs.Shown.Sharp.{sixteen}
 use Rattle.bridge.specs.Leads.{linkAlong}
 use Rattle.bridge.proofs.Resting.Rests.{quiet-words}
-use Rattle.demands.specs.Short.{mostVisits}
 use Rattle.demands.proofs.Open.{walk-tree}
-use Rattle.demands.specs.Short.{Visited}
+use Rattle.demands.specs.Short.{mostVisits, Visited}
 use Rattle.demands.proofs.Third.Full.{filled}
 
 -- THE MOST VISITS ARE REACHED, in the sparsest balanced tree of their height
