@@ -52,6 +52,8 @@ fn main() {
     finds[..2].iter().for_each(|row| targets.find(row));
     records.iter().chain(&whole).for_each(|row| targets.same_promise(row));
     targets.tidy(&by_size[2].1, &by_size[4].1);
+    let tidy_rows = tidy_rows(&by_size[4].1, tidies, small);
+    tidy_rows.iter().for_each(|row| targets.whole_run(row));
     stands.iter().for_each(|stood| targets.stand(stood));
 
     let turns = report::turns(&[&finds, &records, &whole]);
@@ -67,7 +69,7 @@ fn main() {
         ("finds", table(&finds)),
         ("records", table(&records)),
         ("whole", table(&whole)),
-        ("tidies", table(&tidy_rows(&by_size[4].1, tidies, small))),
+        ("tidies", table(&tidy_rows)),
         ("firings", firings(&by_size)),
         ("stand", stand_table(&stands)),
         ("cases", count(agree::CASES)),

@@ -51,6 +51,11 @@ impl Targets {
         self.add("tidy of 4,095 ascending, faster than the rescan".to_string(), "at least 100 times".into(), measured);
     }
 
+    /// A whole run of tidy beside plain Rust that keeps the same set of slots.
+    pub fn whole_run(&mut self, row: &Row) {
+        self.at_most(format!("tidy, {}, over plain Rust", row.what), 1.2, row.over(PLAIN));
+    }
+
     /// The loop of stand.
     pub fn stand(&mut self, stood: &Stood) {
         let lines = stood.lines_inside().unwrap_or_else(|| stood.lines_as_process());

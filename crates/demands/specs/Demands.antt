@@ -19,8 +19,8 @@ use Rattle.ledger.specs.Entries.{lookup}
 use Rattle.ledger.specs.Sorted.{Sorted}
 use Rattle.ledger.specs.OfTree.{entryOf}
 use Rattle.demands.specs.Exactly.{Exactly}
-use Rattle.demands.specs.Listed.{codes, among, Refuses, onlyCode}
-use Rattle.demands.specs.Fires.{worthIn, Trial, tried, Accepted, fires, acceptedIn}
+use Rattle.demands.specs.Listed.{codesListed, among, Refuses, onlyCode}
+use Rattle.demands.specs.Fires.{worthIn, Trial, triedOn, Accepted, fires, acceptedIn}
 use Rattle.demands.specs.Firing.{FireIs}
 use Rattle.demands.specs.Ledgers.{ledgerOf}
 use Rattle.demands.specs.Sequence.{SameCalls}
@@ -31,7 +31,7 @@ use Rattle.demands.specs.Short.{mostVisits, Short}
 -- and stays within what was lent to it, and no call asks anything of its input; this is what a call answers and leaves
 pub record Demand1 (x : Call) (t : List ℕ) : Type 0 where
   -- its code is 0, or one of those that document 01 lists for this call
-  pub numbered : among (answerOf x t .code) (0 ∷ codes x) ≡ true
+  pub numbered : among (answerOf x t .code) (0 ∷ codesListed x) ≡ true
   -- the other four numbers of a refusal are zero
   pub zeros : Refuses x t → answerOf x t ≡ onlyCode (answerOf x t)
   -- and it leaves every word as it was
@@ -51,7 +51,7 @@ pub record Demand2 (t : List ℕ) (c : ℕ) : Type 0 where
   pub as-list : (xs : List Call) → SameCalls xs t c
   -- fire takes a rule just where its guard holds and every new height fits a register; then the tree changes as the rule
   -- says, and the records, their slots and the change number stay
-  pub fire : (x : Trial) → FireIs t c x (tried t x)
+  pub fire : (x : Trial) → FireIs t c x (triedOn t x)
   -- of all that fire would take, the next has the lowest slot and there the lowest rule
   pub order : StatedOrder t c
   -- tidy fires the next one again and again, until its budget is spent or there is none
@@ -64,7 +64,7 @@ pub record Demand3 (t : List ℕ) (c : ℕ) : Type 0 where
   -- whatever is tried, the table stays sound, so that all of this holds again
   pub stays : (xs : List Trial) → Whole (after (fires xs) t) c
   -- every firing that is accepted lowers the worth of the tree that the words spell
-  pub falls : (x : Trial) → Accepted t x → worthIn (tried t x .words) c < worthIn t c
+  pub falls : (x : Trial) → Accepted t x → worthIn (triedOn t x .words) c < worthIn t c
   -- so of any list of them at most as many are accepted as the worth was, and what is left of it bounds the worth then
   pub no-more : (xs : List Trial) → acceptedIn (answers (fires xs) t) + worthIn (after (fires xs) t) c ≤ worthIn t c
   -- this worth is what the call worth answers

@@ -22,12 +22,12 @@ pub record Trial : Type 0 where
   pub side : ℕ
 
 -- what that call does
-abbrev pub tried : List ℕ → Trial → Done
-tried t x = fireOf t (x .rule) (x .holder) (x .side)
+abbrev pub triedOn : List ℕ → Trial → Done
+triedOn t x = fireOf t (x .rule) (x .holder) (x .side)
 
 -- it is accepted
 abbrev pub Accepted : List ℕ → Trial → Type 0
-Accepted t x = tried t x .answer .code ≡ 0
+Accepted t x = triedOn t x .answer .code ≡ 0
 
 abbrev pub fires : List Trial → List Call
 fires = map (λ x. Fire (x .rule) (x .holder) (x .side))

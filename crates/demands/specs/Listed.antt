@@ -26,8 +26,8 @@ refusals (Fire rule holder side) = WrongLength ∷ OutOfRange ∷ Damaged ∷ Gu
 refusals (Tidy budget) = WrongLength ∷ Damaged ∷ []
 
 -- and their codes
-abbrev pub codes : Call → List ℕ
-codes x = map codeOf (refusals x)
+abbrev pub codesListed : Call → List ℕ
+codesListed x = map codeOf (refusals x)
 
 abbrev pub among : ℕ → List ℕ → Bool
 among n [] = false

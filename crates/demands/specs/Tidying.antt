@@ -12,7 +12,7 @@ use Rattle.scope.specs.declared.outcome.Next.the-variants.{At, Nothing}
 use Rattle.spelling.specs.Whole.{Whole}
 use Rattle.bridge.specs.Due.{Due, NotAfter}
 use Rattle.demands.specs.Exactly.{Exactly}
-use Rattle.demands.specs.Fires.{Trial, tried, Accepted, fires}
+use Rattle.demands.specs.Fires.{Trial, triedOn, Accepted, fires}
 use Rattle.demands.specs.Ledgers.{ledgerOf}
 use Rattle.bridge.specs.Leads.{sideNumber}
 
@@ -42,8 +42,8 @@ pub data Firings (c : ℕ) : List ℕ → ℕ → List Trial → List ℕ → Ty
   rests : {t : List ℕ} {budget : ℕ} → nextOf t c ≡ Nothing → Firings c t budget [] t
   spent : {t : List ℕ} → Firings c t 0 [] t
   next : {t t′ : List ℕ} {budget : ℕ} {xs : List Trial} (v n : ℕ) → nextOf t c ≡ At v n
-      → tried t (trialAt t c v n) .answer ≡ accepted (word t changeWord) 0 0 0
-      → Firings c (tried t (trialAt t c v n) .words) budget xs t′ → Firings c t (suc budget) (trialAt t c v n ∷ xs) t′
+      → triedOn t (trialAt t c v n) .answer ≡ accepted (word t changeWord) 0 0 0
+      → Firings c (triedOn t (trialAt t c v n) .words) budget xs t′ → Firings c t (suc budget) (trialAt t c v n ∷ xs) t′
 
 -- why they ended: the budget is spent, or no rule is due
 pub data Stopped (t : List ℕ) (c made budget : ℕ) : Type 0 where

@@ -112,7 +112,12 @@ module _ {t : List ℕ} {c : ℕ} (g : Ready t c) (r : Rule) (link : Link) (le :
       pub reached-slot : fitSlot c s ≡ true → LinkReached t c link
       reached-slot f =
           let p = rw read at f in
-          record { sized = g .sized; holder = le; holds = rw (link-son t link (omega arith)) (fit-son c (slotAt t (link .holder)) (link .side) p) }
+          record {
+            sized = g .sized;
+            holder = le;
+            holds = rw (link-son t link (omega arith))
+                (fit-son c (slotAt t (link .holder)) (link .side) p);
+          }
 
       pub aim-slot : {f : Firing} → fitSlot c s ≡ true → Aimed c (aimV t c r link) f → Aimed c (aim t c r link) f
       unfolding aim

@@ -6,7 +6,9 @@ use lib.ListN.{length}
 use Rattle.scope.specs.Table.{slotsIn}
 use Rattle.scope.specs.declared.answer.Answer.{Answer}
 use Rattle.scope.specs.declared.answer.Refusal.{Refusal}
-use Rattle.scope.specs.declared.answer.Refusal.the-variants.{WrongLength, OutOfRange, Damaged, KeyPresent, KeyAbsent, NoFreeSlot, LastChange, GuardFails, TooHigh, Unreadable}
+use Rattle.scope.specs.declared.answer.Refusal.the-variants.{WrongLength, OutOfRange, Damaged, KeyPresent}
+use Rattle.scope.specs.declared.answer.Refusal.the-variants.{KeyAbsent, NoFreeSlot, LastChange, GuardFails}
+use Rattle.scope.specs.declared.answer.Refusal.the-variants.{TooHigh, Unreadable}
 use Rattle.scope.specs.declared.answer.Gate.{Gate}
 use Rattle.scope.specs.declared.answer.Gate.the-variants.{Shut, Open}
 use Rattle.scope.specs.declared.slots.SlotsIs.{SlotsIs}

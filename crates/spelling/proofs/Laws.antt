@@ -9,7 +9,8 @@ use lib.ListN.{length}
 use lib.Dec.{eqb, leb}
 use Rattle.scope.proofs.Bools.{and-l, and-r, by-bool, never}
 use Rattle.scope.specs.Numbers.{slotsOf}
-use Rattle.scope.specs.Table.{headWords, slotWords, word, rootWord, countWord, slotsIn, base, slotAt, son, linkAt, linkPlace, registerAt, registerPlace, InTable}
+use Rattle.scope.specs.Table.{headWords, slotWords, word, rootWord, countWord, slotsIn, base, slotAt, son, linkAt}
+use Rattle.scope.specs.Table.{linkPlace, registerAt, registerPlace, InTable}
 use Rattle.scope.specs.Fit.{stateOk, piecesOk, linkOk, tailOk, fitSlot, headerOk}
 use Rattle.scope.specs.Answers.{gate, onSlots, admit}
 use Rattle.scope.specs.declared.slot.Slot.{Slot}

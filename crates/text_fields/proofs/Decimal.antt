@@ -66,7 +66,8 @@ unfolding decimalIn
 decimal-in-length zero n = omega arith
 decimal-in-length (suc k) n = go (ltb n 10) (decimal-in-length k (n / 10))
   where
-    go : (b : Bool) → length (decimalIn k (n / 10)) ≤ k → length (cond b ((48 + n) ∷ []) (decimalIn k (n / 10) ++ ((48 + n % 10) ∷ []))) ≤ suc k
+    go : (b : Bool) → length (decimalIn k (n / 10)) ≤ k → length
+        (cond b ((48 + n) ∷ []) (decimalIn k (n / 10) ++ ((48 + n % 10) ∷ []))) ≤ suc k
     go true h = omega arith
     go false h = omega (arith, length-append (decimalIn k (n / 10)) ((48 + n % 10) ∷ []))
 

@@ -10,14 +10,16 @@ use lib.Dec.{eqb}
 use borrow.Author.Tests.{eq-eqb, ne-eqb}
 use Rattle.text_fields.specs.Text.{firstLine}
 
-line-step : (s : List ℕ) (i : ℕ) → i < length s → firstLine (drop i s) ≡ cond (eqb (getD s i 0) 10) [] (getD s i 0 ∷ firstLine (drop (i + 1) s))
+line-step : (s : List ℕ) (i : ℕ) → i < length s → firstLine (drop i s) ≡ cond (eqb (getD s i 0) 10) []
+    (getD s i 0 ∷ firstLine (drop (i + 1) s))
 unfolding firstLine
 line-step s i h = rw (add-one, drop-cons s i 0)
 
 pub line-newline : (s : List ℕ) (i : ℕ) → i < length s → getD s i 0 ≡ 10 → length (firstLine (drop i s)) ≡ 0
 line-newline s i h e = ap length (line-step s i h) ∙ rw (eq-eqb _ _ e)
 
-pub line-more : (s : List ℕ) (i : ℕ) → i < length s → (getD s i 0 ≡ 10 → ⊥) → length (firstLine (drop i s)) ≡ suc (length (firstLine (drop (i + 1) s)))
+pub line-more : (s : List ℕ) (i : ℕ) → i < length s → (getD s i 0 ≡ 10 → ⊥) → length (firstLine (drop i s)) ≡ suc
+    (length (firstLine (drop (i + 1) s)))
 line-more s i h e = ap length (line-step s i h) ∙ rw (ne-eqb _ _ e)
 
 pub line-none : (s : List ℕ) (i : ℕ) → length s ≤ i → length (firstLine (drop i s)) ≡ 0

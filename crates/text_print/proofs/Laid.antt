@@ -82,7 +82,8 @@ fields-append [] vs [] ms e = refl
 fields-append [] vs (n ∷ ns) ms e = absurd (omega arith)
 fields-append (w ∷ ws) vs [] ms e = absurd (omega arith)
 fields-append (w ∷ ws) vs (n ∷ ns) ms e =
-    ap (λ (l : List ℕ). field w n ++ l) (fields-append ws vs ns ms (omega arith)) ∙ sym (append-assoc (field w n) (fields ws ns) (fields vs ms))
+    ap (λ (l : List ℕ). field w n ++ l) (fields-append ws vs ns ms (omega arith)) ∙ sym
+    (append-assoc (field w n) (fields ws ns) (fields vs ms))
 
 pub record-parts : (slot : ℕ) (s : Slot)
     → recordLine slot s ≡ recordStart (s .key) (s .pieces) (s .state) slot ++ recordEnd (s .left) (s .right) (s .lefth) (s .righth)

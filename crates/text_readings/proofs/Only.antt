@@ -25,7 +25,8 @@ decimal-extend v c p l k b =
     let m : 48 + (v * 10 + (c - 48)) % 10 ≡ c = omega arith in
     sym (decimal-step (v * 10 + (c - 48)) (omega arith) b ∙ rw (q, m))
 
-only-digits : (l : List ℕ) (v : ℕ) → 0 < v → valueFrom v (digitsOf l) < 10 ^ 20 → decimal v ++ digitsOf l ≡ decimal (valueFrom v (digitsOf l))
+only-digits : (l : List ℕ) (v : ℕ) → 0 < v → valueFrom v (digitsOf l) < 10 ^ 20 → decimal v ++ digitsOf l ≡ decimal
+    (valueFrom v (digitsOf l))
 unfolding digitsOf valueFrom
 only-digits [] v p b = append-nil (decimal v)
 only-digits (c ∷ l) v p b = go (isDigit c) refl (only-digits l (v * 10 + (c - 48))) b
@@ -73,7 +74,8 @@ text-only (c ∷ l) h z b = go (isDigit c) refl h z b
       where
         go48 : (c ≡ 48 → ⊥) → 0 < c - 48
         go48 f = omega arith
-    led (d ∷ t) q true e lo hi z b = absurd (true≢false (sym (lt-ltb 1 (suc (suc (length t))) (omega arith)) ∙ (sym (and-true (ltb 1 (suc (suc (length t))))) ∙ z)))
+    led (d ∷ t) q true e lo hi z b = absurd (true≢false
+        (sym (lt-ltb 1 (suc (suc (length t))) (omega arith)) ∙ (sym (and-true (ltb 1 (suc (suc (length t))))) ∙ z)))
 
     go : (t : Bool) → isDigit c ≡ t → 0 < length (cond t (c ∷ digitsOf l) []) → leadingZero (cond t (c ∷ digitsOf l) []) ≡ false
         → valueFrom 0 (cond t (c ∷ digitsOf l) []) < 10 ^ 20
@@ -85,12 +87,14 @@ text-only (c ∷ l) h z b = go (isDigit c) refl h z b
     go false e h z b = absurd (omega arith)
 
 -- a number that is read is its decimal text, and the place after it follows the text
-pub number-only : (s : List ℕ) (at v i : ℕ) → Number v i ≡ numberAt s at → (v ≤ largest) × (digitsOf (drop at s) ≡ decimal v) × (i ≡ at + length (decimal v))
+pub number-only : (s : List ℕ) (at v i : ℕ) → Number v i ≡ numberAt s at →
+    (v ≤ largest) × (digitsOf (drop at s) ≡ decimal v) × (i ≡ at + length (decimal v))
 unfolding numberOf
 number-only s at v i e = go (digitsOf (drop at s)) (text-only (drop at s)) e
   where
     go : (t : List ℕ) → (0 < length t → leadingZero t ≡ false → valueFrom 0 t < 10 ^ 20 → t ≡ decimal (valueFrom 0 t))
-        → Number v i ≡ cond (ltb 0 (length t) && not (leadingZero t) && leb (valueFrom 0 t) largest) (Number (valueFrom 0 t) (at + length t)) NoNumber
+        → Number v i ≡ cond (ltb 0 (length t) && not (leadingZero t) && leb (valueFrom 0 t) largest)
+        (Number (valueFrom 0 t) (at + length t)) NoNumber
         → (v ≤ largest) × (t ≡ decimal v) × (i ≡ at + length (decimal v))
     go t only e = pick (ltb 0 (length t) && not (leadingZero t) && leb (valueFrom 0 t) largest) refl e
       where

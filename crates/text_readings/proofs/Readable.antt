@@ -63,7 +63,8 @@ line-only s f a b c q = word (startsWith (f .name) s) refl
     word : (t : Bool) → startsWith (f .name) s ≡ t
         → endThen s (fieldsThen s (f .words) (cond t (Numbers 0 0 0 (0 + length (f .name))) Other)) ≡ Numbers a b c q → LineIs s f a b c q
     word false t e = stop (sym (ap (endThen s) (other-stays s (f .words))) ∙ e)
-    word true t e = whole (fieldsThen s (f .words) (Numbers 0 0 0 (0 + length (f .name)))) (fields-only s (f .words) 0 0 0 (0 + length (f .name))) t e
+    word true t e = whole (fieldsThen s (f .words) (Numbers 0 0 0 (0 + length (f .name))))
+        (fields-only s (f .words) 0 0 0 (0 + length (f .name))) t e
 
 -- the numbers that were read are the last of three
 last-told : {ws : List (List ℕ)} {ns : List ℕ} (a b c q : ℕ) → length ws ≤ 3 → NumbersTold ws ns → Numbers a b c q ≡ afterNumbers 0 0 0 ns q
@@ -106,7 +107,8 @@ form-says o s a b c q e =
     }
 
 -- forms tried one after the other
-tried-says : (os : List Op) (s : List ℕ) → (readable (tried (map formOf os) s Unreadable) ≡ true) → SaysCommand s (tried (map formOf os) s Unreadable)
+tried-says : (os : List Op) (s : List ℕ) → (readable (tried (map formOf os) s Unreadable) ≡ true) → SaysCommand s
+    (tried (map formOf os) s Unreadable)
 unfolding tried readable
 tried-says [] s e = absurd (true≢false (sym e))
 tried-says (o ∷ os) s e = go (formRead s (formOf o)) refl (tried-says os s) e

@@ -60,7 +60,8 @@ line-back : (f : Form) {ns : List ℕ} → allSpaced (f .words) ≡ true → Num
     → formRead (lineAs f ns) f ≡ afterNumbers 0 0 0 ns (length (lineAs f ns))
 line-back f {ns} p t =
     let s = lineAs f ns in
-    let w : wordThen s (f .name) begin ≡ Numbers 0 0 0 (length (f .name)) = word-back s 0 (f .name) (fields (f .words) ns) 0 0 0 refl ∙ rw zero-add in
+    let w : wordThen s (f .name) begin ≡ Numbers 0 0 0 (length (f .name)) = word-back s 0 (f .name)
+    (fields (f .words) ns) 0 0 0 refl ∙ rw zero-add in
     let r = fields-back s (length (f .name)) [] 0 0 0 p t (line-rest f ns) no-digits in
     ap (λ (x : Read). endThen s (fieldsThen s (f .words) x)) w
     ∙ ap (endThen s) (r ∙ ap (afterNumbers 0 0 0 ns) (sym (length-append (f .name) (fields (f .words) ns))))
@@ -73,7 +74,8 @@ starts-apart [] u x e = sym e
 starts-apart (c ∷ w) [] x e = never cc
 starts-apart (c ∷ w) (d ∷ u) x e = go (eqb d c) e (starts-apart w u x)
   where
-    go : (b : Bool) → (not b || differ w u) ≡ true → (differ w u ≡ true → startsWith w (u ++ x) ≡ false) → (b && startsWith w (u ++ x)) ≡ false
+    go : (b : Bool) → (not b || differ w u) ≡ true → (differ w u ≡ true → startsWith w (u ++ x) ≡ false) →
+        (b && startsWith w (u ++ x)) ≡ false
     go true q ih = ih q
     go false q ih = refl
 
@@ -83,7 +85,8 @@ form-apart f n x e =
     rw (starts-apart (f .name) n x e) (ap (endThen (n ++ x)) (other-stays (n ++ x) (f .words)))
 
 -- what was read makes its command, whatever else there is
-after-made : (o : Op) (a b c : ℕ) (ns : List ℕ) (q : ℕ) (x y : Command) → made o (afterNumbers a b c ns q) x ≡ made o (afterNumbers a b c ns q) y
+after-made : (o : Op) (a b c : ℕ) (ns : List ℕ) (q : ℕ) (x y : Command) → made o (afterNumbers a b c ns q) x ≡ made o
+    (afterNumbers a b c ns q) y
 unfolding afterNumbers
 after-made o a b c [] q x y = refl
 after-made o a b c (n ∷ ns) q x y = after-made o b c n ns q x y
@@ -96,7 +99,8 @@ first-tried [] n x g ns q e r = never cc
 first-tried (f ∷ fs) n x g ns q e r = go (differ (f .name) n) refl e (first-tried fs n x g ns q)
   where
     go : (t : Bool) → differ (f .name) n ≡ t → cond t (firstOf n fs) (some f) ≡ some g
-        → (firstOf n fs ≡ some g → formRead (n ++ x) g ≡ afterNumbers 0 0 0 ns q → tried fs (n ++ x) Unreadable ≡ made (g .op) (afterNumbers 0 0 0 ns q) Unreadable)
+        → (firstOf n fs ≡ some g → formRead (n ++ x) g ≡ afterNumbers 0 0 0 ns q → tried fs (n ++ x) Unreadable ≡ made
+        (g .op) (afterNumbers 0 0 0 ns q) Unreadable)
         → made (f .op) (formRead (n ++ x) f) (tried fs (n ++ x) Unreadable) ≡ made (g .op) (afterNumbers 0 0 0 ns q) Unreadable
     go true t e ih = rw (form-apart f n x t) (ih e r)
     go false t e ih = let z : f ≡ g = cc in rw (z, r) (after-made (g .op) 0 0 0 ns q (tried fs (n ++ x) Unreadable) Unreadable)
@@ -113,8 +117,15 @@ read-printed o a b c ha hb hc =
     let rest = and-r most (allSpaced (f .words) && few) (p .fit) in
     let t = told-last (f .words) a b c (leb-true _ _ (and-r (allSpaced (f .words)) few rest)) ha hb hc in
     let l : length (lineAs f ns) ≤ 80 =
-    omega (arith, length-append (f .name) (fields (f .words) ns), fields-short t, leb-true (length (f .name) + room (f .words)) 80 (and-l most (allSpaced (f .words) && few) (p .fit))) in
+    omega (
+      arith,
+      length-append (f .name) (fields (f .words) ns),
+      fields-short t,
+      leb-true
+          (length (f .name) + room (f .words)) 80 (and-l most (allSpaced (f .words) && few) (p .fit)),
+    ) in
     rw (le-ltb 80 (length (lineAs f ns)) l)
-    (first-tried forms (f .name) (fields (f .words) ns) f ns (length (lineAs f ns)) (p .first) (line-back f (and-l (allSpaced (f .words)) few rest) t)
+    (first-tried forms (f .name) (fields (f .words) ns) f ns (length (lineAs f ns)) (p .first)
+    (line-back f (and-l (allSpaced (f .words)) few rest) t)
     ∙ ap (λ (x : Op). made x (afterNumbers 0 0 0 ns (length (lineAs f ns))) Unreadable) (p .op)
     ∙ p .asks a b c (length (lineAs f ns)))

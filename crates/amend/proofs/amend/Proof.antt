@@ -44,13 +44,5 @@ returns-2 c =
 pub amend-spec : {M : Type 1} → statement M
 amend-spec =
     tie.close
-    (tie.spec
-    plan-amend-requires
-    enum-known-why
-    refuse-requires
-    enum-known-slot
-    change-record-requires
-    same-length
-    returns
-    same-length-2
-    returns-2)
+    (tie.spec plan-amend-requires enum-known-why refuse-requires enum-known-slot change-record-requires same-length
+    returns same-length-2 returns-2)

@@ -52,12 +52,4 @@ returns-4 c =
 pub amending-at-spec : {M : Type 1} → statement M
 amending-at-spec =
     tie.close
-    (tie.spec
-    enum-told
-    enum-told-2
-    enum-known-w
-    change-requires
-    returns
-    returns-2
-    returns-3
-    returns-4)
+    (tie.spec enum-told enum-told-2 enum-known-w change-requires returns returns-2 returns-3 returns-4)

@@ -40,11 +40,5 @@ returns c =
 pub change-record-spec : {M : Type 1} → statement M
 change-record-spec =
     tie.close
-    (tie.spec
-    change-requires
-    slot-at-requires
-    with-record-requires
-    put-slot-requires
-    next-change-requires
-    same-length
+    (tie.spec change-requires slot-at-requires with-record-requires put-slot-requires next-change-requires same-length
     returns)

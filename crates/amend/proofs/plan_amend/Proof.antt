@@ -46,12 +46,5 @@ returns-2 c =
 pub plan-amend-spec : {M : Type 1} → statement M
 plan-amend-spec =
     tie.close
-    (tie.spec
-    record-ok-requires
-    enter-requires
-    enum-known-why
-    enum-known-c
-    search-requires
-    amending-at-requires
-    returns
-    returns-2)
+    (tie.spec record-ok-requires enter-requires enum-known-why enum-known-c search-requires amending-at-requires
+    returns returns-2)

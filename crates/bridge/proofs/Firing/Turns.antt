@@ -79,7 +79,8 @@ module _ {t : List ℕ} {c : ℕ} (l : Link) (s : Side) (dv du : Batch) (v u : P
     propagate-in = (v-in, tt)
 
     module _ {t′ : List ℕ} (r : Rewritten t t′ c (rules.propagated s both)) (low : localh u ≤ mostHeight) where
-      slot-v : slotAt t′ x ≡ shape s (slotAt t x) y (son (slotAt t x) (other s)) (pair (localh (seen s (slotAt t y))) (seen s (slotAt t x) .far))
+      slot-v : slotAt t′ x ≡ shape s (slotAt t x) y (son (slotAt t x) (other s))
+          (pair (localh (seen s (slotAt t y))) (seen s (slotAt t x) .far))
       unfolding edited
       slot-v =
           r .slots x (look-v .there) ∙ ap (edited (rules.propagated s both) x) (sym (shape-self s (slotAt t x)))
@@ -98,7 +99,12 @@ module _ {t : List ℕ} {c : ℕ} (l : Link) (s : Side) (dv du : Batch) (v u : P
           (link-on c y (localh u) (look-u .there) y-most low) (fv .far))
           (look-v .holds)
           (stays (rules.propagated s both) r y (mk s du u m n)
-          (λ k i. propagate-away k (omega (arith, times-mk s du u m n k, ap (λ (d : Batch). same k (d .slot)) (look-u .holds)))) (look-v .nearSon))
+          (λ k i. propagate-away k (omega (
+            arith,
+            times-mk s du u m n k,
+            ap (λ (d : Batch). same k (d .slot))
+                (look-u .holds),
+          ))) (look-v .nearSon))
           (stays (rules.propagated s both) r (son (slotAt t x) (other s)) far (λ k i. propagate-away k (omega arith)) (look-v .farSon)))
 
     pub propagate-below : localh u ≤ mostHeight

@@ -58,7 +58,8 @@ module _ {t : List ℕ} {c : ℕ} (z : Sized t c) (k x : ℕ) (p : Part) where
   put-slot j h i =
       elim (ℕ-discrete k 0) [
         | yes e ↦ simp (eq-eqb k 0 e, ne-eqb j k (λ q. omega arith))
-            (words-slot (set t rootWord x) j (λ f. word t (base j + f)) (λ f l. getD-set-other t rootWord (base j + f) x 0 (λ q. omega arith))
+            (words-slot (set t rootWord x) j (λ f. word t (base j + f))
+            (λ f l. getD-set-other t rootWord (base j + f) x 0 (λ q. omega arith))
             ∙ sym (words-slot t j (λ f. word t (base j + f)) (λ f h. refl)))
         | no ne ↦ elim (ℕ-discrete j k) [
           | yes e ↦ rw (e, ne-eqb k 0 ne, eq-eqb k k refl) (put-here (omega arith) h)

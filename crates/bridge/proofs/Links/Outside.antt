@@ -85,7 +85,8 @@ module _ (t : List ℕ) (l : Link) where
 
 module _ {t t′ : List ℕ} {c : ℕ} (S : Tree) where
   -- outside S the edits below a link are those of the link
-  module _ (l : Link) (top : ℕ) (es : List Edit) (i : InTree c S es) (r : Rewritten t t′ c (edit (l .holder) (sonOn (l .side)) top ∷ es)) where
+  module _ (l : Link) (top : ℕ) (es : List Edit) (i : InTree c S es)
+      (r : Rewritten t t′ c (edit (l .holder) (sonOn (l .side)) top ∷ es)) where
     pub outside-slots : (k : ℕ) → 1 ≤ k → times k S ≡ 0 → slotAt t′ k ≡ slotRelinked l top k (slotAt t k)
     unfolding edited
     outside-slots k h z = r .slots k h ∙ edited-away k es _ (in-away c S k z es i)

@@ -72,7 +72,8 @@ module _ (t : List ℕ) (c key : ℕ) where
       (goes more l seen (p .there) Left (visits key left) (seek key left) (linkAlong t (route key left) (on Left)) (simp (e, f) at step)
       (walk-is left more (on Left) (seen + 1) (omega arith) (rw (link-son t (on Left) (p .there)) (p .left)))))
       (λ f. simp (e, f)
-      (goes more l seen (p .there) Right (visits key right) (seek key right) (linkAlong t (route key right) (on Right)) (simp (e, f) at step)
+      (goes more l seen (p .there) Right (visits key right) (seek key right)
+      (linkAlong t (route key right) (on Right)) (simp (e, f) at step)
       (walk-is right more (on Right) (seen + 1) (omega arith) (rw (link-son t (on Right) (p .there)) (p .right))))))
 
 -- no walk visits more nodes than the tree is high

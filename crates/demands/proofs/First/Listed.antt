@@ -13,13 +13,13 @@ use Rattle.scope.specs.Sums.{checkAnswer, totalOf, totalAnswer}
 use Rattle.scope.specs.Worth.{worthOf, worthAnswer}
 use Rattle.scope.specs.Calls.{Call, Start, Check, Find, Post, Amend, Drop, Rank, Total, Worth, Fire, Tidy, answerOf, tableOf}
 use Rattle.scope.specs.declared.answer.Refusal.{Refusal}
-use Rattle.demands.specs.Listed.{codes, among, Refuses, onlyCode, Answered, accepts, refuses}
+use Rattle.demands.specs.Listed.{codesListed, among, Refuses, onlyCode, Answered, accepts, refuses}
 use Rattle.demands.proofs.First.Refusals.{start-answered, whole-answered, tidy-answered, rank-answered}
 use Rattle.demands.proofs.First.Refusals.{find-answered, post-answered, amend-answered, drop-answered}
 use Rattle.demands.proofs.First.FireRefusals.{fire-answered}
 
 -- DEMAND 1: every call, for any words and arguments
-pub answered : (x : Call) (t : List ℕ) → Answered (codes x) t (record { answer = answerOf x t; words = tableOf x t })
+pub answered : (x : Call) (t : List ℕ) → Answered (codesListed x) t (record { answer = answerOf x t; words = tableOf x t })
 unfolding checkAnswer totalAnswer worthAnswer
 answered Start t = start-answered t
 answered Check t = whole-answered t (λ c. accepted (word t changeWord) 0 0 0) (λ c. refl)
@@ -38,10 +38,10 @@ pub record Refused (x : Call) (t : List ℕ) : Type 0 where
   pub why : Refusal
   pub answer : answerOf x t ≡ refusal why
   pub words : tableOf x t ≡ t
-  pub listed : among (codeOf why) (codes x) ≡ true
+  pub listed : among (codeOf why) (codesListed x) ≡ true
 
 says : (x : Call) (t : List ℕ) (d : Done) → d ≡ record { answer = answerOf x t; words = tableOf x t }
-    → Answered (codes x) t d
+    → Answered (codesListed x) t d
     → (d .answer .code ≡ 0 → ⊥) → Refused x t
 says x t d e (accepts z) ne = absurd (ne z)
 says x t d e (refuses why l) ne =
@@ -55,7 +55,7 @@ pub refused-zeros : (x : Call) (t : List ℕ) → Refuses x t → answerOf x t �
 refused-zeros x t ne = let r = refused-is x t ne in rw (r .answer) refl
 
 -- and every code is 0 or listed
-pub code-listed : (x : Call) (t : List ℕ) → among (answerOf x t .code) (0 ∷ codes x) ≡ true
+pub code-listed : (x : Call) (t : List ℕ) → among (answerOf x t .code) (0 ∷ codesListed x) ≡ true
 code-listed x t =
     elim (ℕ-discrete (answerOf x t .code) 0) [
       | yes z ↦ rw z refl

@@ -41,7 +41,7 @@ use Rattle.scope.specs.declared.outcome.Dropping.{Dropping}
 use Rattle.scope.specs.declared.outcome.Dropping.the-variants as dropping-is
 use Rattle.scope.specs.declared.outcome.Rank as rank-is
 use Rattle.scope.specs.declared.outcome.Rank.the-variants as ranks
-use Rattle.demands.specs.Listed.{codes, among, Answered, accepts, refuses}
+use Rattle.demands.specs.Listed.{codesListed, among, Answered, accepts, refuses}
 
 -- what holds of both ends of a test holds of what it comes to
 pub either : {A : Type 0} (P : A → Type 0) (b : Bool) {x y : A} → P x → P y → P (cond b x y)
@@ -85,109 +85,110 @@ module _ (t listed : List ℕ) (good : Bool) (whole : ℕ → Bool) (F : Gate �
       on (Within s) = tests (s .count) good (whole (s .count)) refl refl
 
 module _ (t : List ℕ) where
-  pub start-answered : Answered (codes Start) t (startOf t)
+  pub start-answered : Answered (codesListed Start) t (startOf t)
   unfolding startOf
   start-answered =
-      by-gate t (codes Start) true (λ c. true) (started t)
+      by-gate t (codesListed Start) true (λ c. true) (started t)
       (λ why. refl) refl (λ e. neither refl e) (λ c e. neither refl e) (λ c. accepts refl)
 
   -- calls that want a sound table and have no argument to test
   pub whole-answered : (f : ℕ → Answer) → ((c : ℕ) → f c .code ≡ 0)
-      → Answered (codes Check) t (only t (answering (soundGate t true) f))
+      → Answered (codesListed Check) t (only t (answering (soundGate t true) f))
   whole-answered f h =
-      by-gate t (codes Check) true (λ c. soundTable t c) (λ g. only t (answering g f))
+      by-gate t (codesListed Check) true (λ c. soundTable t c) (λ g. only t (answering g f))
       (λ why. refl) refl (λ e. neither refl e) (λ c e. refl) (λ c. accepts (h c))
 
-  pub tidy-answered : (budget : ℕ) → Answered (codes (Tidy budget)) t (tidyOf t budget)
+  pub tidy-answered : (budget : ℕ) → Answered (codesListed (Tidy budget)) t (tidyOf t budget)
   unfolding tidyOf tidied
   tidy-answered budget =
-      by-gate t (codes (Tidy budget)) true (λ c. soundTable t c) (λ g. tidying t g (λ c. tidied t c (tidyFrom budget c t 0)))
+      by-gate t (codesListed (Tidy budget)) true (λ c. soundTable t c) (λ g. tidying t g (λ c. tidied t c (tidyFrom budget c t 0)))
       (λ why. refl) refl (λ e. neither refl e) (λ c e. refl) (λ c. accepts refl)
 
   -- rank and find
-  ranked-answered : (r : ℕ) (x : rank-is.Rank) → Answered (codes (Rank r)) t (only t (ranked t x))
+  ranked-answered : (r : ℕ) (x : rank-is.Rank) → Answered (codesListed (Rank r)) t (only t (ranked t x))
   unfolding ranked
   ranked-answered r (ranks.At slot) = accepts refl
   ranked-answered r (ranks.Past n) = refuses KeyAbsent refl
 
-  pub rank-answered : (r : ℕ) → Answered (codes (Rank r)) t (only t (rankAnswer t r))
+  pub rank-answered : (r : ℕ) → Answered (codesListed (Rank r)) t (only t (rankAnswer t r))
   unfolding rankAnswer
   rank-answered r =
-      by-gate t (codes (Rank r)) (not (eqb r 0)) (λ c. soundTable t c) (λ g. only t (answering g (λ c. ranked t (rankOf r (treeIn t c)))))
+      by-gate t (codesListed (Rank r)) (not (eqb r 0)) (λ c. soundTable t c)
+      (λ g. only t (answering g (λ c. ranked t (rankOf r (treeIn t c)))))
       (λ why. refl) refl (λ e. refl) (λ c e. refl) (λ c. ranked-answered r (rankOf r (treeIn t c)))
 
-  found-answered : (key : ℕ) (x : Walk) → Answered (codes (Find key)) t (only t (foundIn t x))
+  found-answered : (key : ℕ) (x : Walk) → Answered (codesListed (Find key)) t (only t (foundIn t x))
   unfolding foundIn
   found-answered key (Hit slot link seen) = accepts refl
   found-answered key (Miss link seen) = refuses KeyAbsent refl
   found-answered key Damage = refuses Damaged refl
 
-  pub find-answered : (key : ℕ) → Answered (codes (Find key)) t (only t (findAnswer t key))
+  pub find-answered : (key : ℕ) → Answered (codesListed (Find key)) t (only t (findAnswer t key))
   unfolding findAnswer
   find-answered key =
-      by-gate t (codes (Find key)) (not (eqb key 0)) (λ c. headerOk c t) (λ g. only t (answering g (λ c. foundIn t (walkOf t c key))))
+      by-gate t (codesListed (Find key)) (not (eqb key 0)) (λ c. headerOk c t) (λ g. only t (answering g (λ c. foundIn t (walkOf t c key))))
       (λ why. refl) refl (λ e. refl) (λ c e. refl) (λ c. found-answered key (walkOf t c key))
 
   -- post: what the walk and the free slot come to
   module _ (key pieces state : ℕ) where
-    hang-may : (c : ℕ) (link : Link) (k : ℕ) → Posts (codes (Post key pieces state)) (hangAt t c link k)
+    hang-may : (c : ℕ) (link : Link) (k : ℕ) → Posts (codesListed (Post key pieces state)) (hangAt t c link k)
     unfolding hangAt
     hang-may c link k =
         either (Posts _) (eqb k 0) (refuse NoFreeSlot refl)
         (either (Posts _) (blankSlot (slotAt t k) && ltb (word t countWord) c)
         (either (Posts _) (ltb (word t changeWord) lastChange) hang (refuse LastChange refl)) (refuse Damaged refl))
 
-    posting-may : (c : ℕ) (x : Walk) → Posts (codes (Post key pieces state)) (postingAt t c x)
+    posting-may : (c : ℕ) (x : Walk) → Posts (codesListed (Post key pieces state)) (postingAt t c x)
     unfolding postingAt
     posting-may c (Hit slot link seen) = refuse KeyPresent refl
     posting-may c (Miss link seen) = hang-may c link (freeSlot t c)
     posting-may c Damage = refuse Damaged refl
 
-    posts : (new : Slot) (x : Posting) → Posts (codes (Post key pieces state)) x
-        → Answered (codes (Post key pieces state)) t (posted t new x)
+    posts : (new : Slot) (x : Posting) → Posts (codesListed (Post key pieces state)) x
+        → Answered (codesListed (Post key pieces state)) t (posted t new x)
     unfolding posted
     posts new x (refuse why e) = refuses why e
     posts new x hang = accepts refl
 
-    pub post-answered : Answered (codes (Post key pieces state)) t (postOf t key pieces state)
+    pub post-answered : Answered (codesListed (Post key pieces state)) t (postOf t key pieces state)
     unfolding postOf postPlan posted
     post-answered =
-        by-gate t (codes (Post key pieces state)) (recordOk key pieces state) (λ c. headerOk c t)
+        by-gate t (codesListed (Post key pieces state)) (recordOk key pieces state) (λ c. headerOk c t)
         (λ g. posted t (leafSlot key pieces state) (posting g (λ c. postingAt t c (walkOf t c key))))
         (λ why. refl) refl (λ e. refl) (λ c e. refl) (λ c. posts (leafSlot key pieces state) _ (posting-may c (walkOf t c key)))
 
-    amending-may : (x : Walk) → Amends (codes (Amend key pieces state)) (amendingAt t x)
+    amending-may : (x : Walk) → Amends (codesListed (Amend key pieces state)) (amendingAt t x)
     unfolding amendingAt
     amending-may (Hit slot link seen) = either (Amends _) (ltb (word t changeWord) lastChange) change (not-amend LastChange refl)
     amending-may (Miss link seen) = not-amend KeyAbsent refl
     amending-may Damage = not-amend Damaged refl
 
-    amends : (x : Amending) → Amends (codes (Amend key pieces state)) x
-        → Answered (codes (Amend key pieces state)) t (amended t pieces state x)
+    amends : (x : Amending) → Amends (codesListed (Amend key pieces state)) x
+        → Answered (codesListed (Amend key pieces state)) t (amended t pieces state x)
     unfolding amended
     amends x (not-amend why e) = refuses why e
     amends x change = accepts refl
 
-    pub amend-answered : Answered (codes (Amend key pieces state)) t (amendOf t key pieces state)
+    pub amend-answered : Answered (codesListed (Amend key pieces state)) t (amendOf t key pieces state)
     unfolding amendOf amendPlan amended
     amend-answered =
-        by-gate t (codes (Amend key pieces state)) (recordOk key pieces state) (λ c. headerOk c t)
+        by-gate t (codesListed (Amend key pieces state)) (recordOk key pieces state) (λ c. headerOk c t)
         (λ g. amended t pieces state (amending g (λ c. amendingAt t (walkOf t c key))))
         (λ why. refl) refl (λ e. refl) (λ c e. refl) (λ c. amends _ (amending-may (walkOf t c key)))
 
   -- drop: as post, and the leftmost on the right
   module _ (key : ℕ) where
-    if-may : (x : Dropping) → Drops (codes (Drop key)) x → Drops (codes (Drop key)) (ifMay t x)
+    if-may : (x : Dropping) → Drops (codesListed (Drop key)) x → Drops (codesListed (Drop key)) (ifMay t x)
     unfolding ifMay
     if-may x p =
         either (Drops _) (eqb (word t countWord) 0) (not-drop Damaged refl)
         (either (Drops _) (ltb (word t changeWord) lastChange) p (not-drop LastChange refl))
 
-    replacing-may : (slot : ℕ) (x : Leftmost) → Drops (codes (Drop key)) (replacing t slot x)
+    replacing-may : (slot : ℕ) (x : Leftmost) → Drops (codesListed (Drop key)) (replacing t slot x)
     replacing-may slot leftmost.Broken = not-drop Damaged refl
     replacing-may slot (leftmost.Is least link) = if-may (dropping-is.Replace slot least link) replace
 
-    dropping-may : (c : ℕ) (x : Walk) → Drops (codes (Drop key)) (droppingAt t c x)
+    dropping-may : (c : ℕ) (x : Walk) → Drops (codesListed (Drop key)) (droppingAt t c x)
     unfolding droppingAt dropAt
     dropping-may c (Hit slot link seen) =
         either (Drops _) (eqb (slotAt t slot .left) 0) (if-may (dropping-is.Lift slot link (slotAt t slot .right)) lift)
@@ -196,15 +197,15 @@ module _ (t : List ℕ) where
     dropping-may c (Miss link seen) = not-drop KeyAbsent refl
     dropping-may c Damage = not-drop Damaged refl
 
-    drops : (x : Dropping) → Drops (codes (Drop key)) x → Answered (codes (Drop key)) t (dropped t x)
+    drops : (x : Dropping) → Drops (codesListed (Drop key)) x → Answered (codesListed (Drop key)) t (dropped t x)
     unfolding dropped
     drops x (not-drop why e) = refuses why e
     drops x lift = accepts refl
     drops x replace = accepts refl
 
-    pub drop-answered : Answered (codes (Drop key)) t (dropOf t key)
+    pub drop-answered : Answered (codesListed (Drop key)) t (dropOf t key)
     unfolding dropOf dropPlan dropped
     drop-answered =
-        by-gate t (codes (Drop key)) (not (eqb key 0)) (λ c. headerOk c t)
+        by-gate t (codesListed (Drop key)) (not (eqb key 0)) (λ c. headerOk c t)
         (λ g. dropped t (dropping g (λ c. droppingAt t c (walkOf t c key))))
         (λ why. refl) refl (λ e. refl) (λ c e. refl) (λ c. drops _ (dropping-may c (walkOf t c key)))

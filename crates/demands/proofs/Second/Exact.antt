@@ -29,7 +29,7 @@ use Rattle.bridge.specs.Fired.{Fired, FireEnds, at-way, no-way}
 use Rattle.bridge.proofs.Firing.Fires.{same-way}
 use Rattle.bridge.proofs.Firing.Calls.{sized-slots, link-in, fire-ends, plan-is}
 use Rattle.demands.specs.Listed.{among}
-use Rattle.demands.specs.Fires.{Trial, tried}
+use Rattle.demands.specs.Fires.{Trial, triedOn}
 use Rattle.demands.specs.Firing.{Named, NamedPlace, guarded, limited, Enabled, OverLimit, NoGuard, FireIs}
 use Rattle.demands.proofs.Open.{own-tree, some-code}
 
@@ -127,7 +127,7 @@ module _ {t : List ℕ} {c : ℕ} {x : Trial} {d : Done} where
 
 module _ {t : List ℕ} {c : ℕ} (w : Whole t c) (x : Trial) where
   abbrev d : Done
-  d = tried t x
+  d = triedOn t x
 
   -- AT EVERY PLACE that the numbers name
   at-place : (p : NamedPlace t c x) → Ends t c (treeIn t c) (guarded t c x p) (limited t c x p) d
@@ -177,7 +177,7 @@ module _ {t : List ℕ} {c : ℕ} (w : Whole t c) (x : Trial) where
   is-done e = ends-done d (e .tree) (e .is) (at-place (e .at))
 
   -- FIRE, EXACTLY
-  pub fire-exact : FireIs t c x (tried t x)
+  pub fire-exact : FireIs t c x (triedOn t x)
   fire-exact =
       record {
         accepts = record { whenever = λ e. ap (λ (r : Answer). r .code) (is-done e .0); only-if = only-taken case };

@@ -19,7 +19,7 @@ use Rattle.spelling.proofs.Spell.{only-tree}
 use Rattle.spelling.proofs.Zeros.{zeros, zeros-hold}
 use Rattle.bridge.specs.Fired.{Fired}
 use Rattle.ledger.specs.OfTree.{entriesOf, entryOf}
-use Rattle.demands.specs.Fires.{Trial, tried, Accepted}
+use Rattle.demands.specs.Fires.{Trial, triedOn, Accepted}
 use Rattle.demands.specs.Firing.{Enabled}
 use Rattle.demands.specs.Ledgers.{ledgerOf}
 use Rattle.demands.proofs.Open.{gate-is}
@@ -33,26 +33,26 @@ pub record SameLedger (t : List ℕ) (c : ℕ) (d : Done) : Type 0 where
 
 -- an attempted firing is accepted and does what it does, or it is refused and leaves every word
 pub data Fares (t : List ℕ) (c : ℕ) (x : Trial) : Type 0 where
-  acted : (e : Enabled t c x) → Accepted t x → Fired t (tried t x .words) c (treeIn t c) (e .tree) → Fares t c x
-  unmoved : (Accepted t x → ⊥) → tried t x .words ≡ t → Fares t c x
+  acted : (e : Enabled t c x) → Accepted t x → Fired t (triedOn t x .words) c (treeIn t c) (e .tree) → Fares t c x
+  unmoved : (Accepted t x → ⊥) → triedOn t x .words ≡ t → Fares t c x
 
 pub fares : {t : List ℕ} {c : ℕ} → Whole t c → (x : Trial) → Fares t c x
 fares {t} w x =
     let f = fire-exact w x in
-    elim (ℕ-discrete (tried t x .answer .code) 0) [
+    elim (ℕ-discrete (triedOn t x .answer .code) 0) [
       | yes z ↦ let e = f .accepts .only-if z in acted e z (f .acts e)
       | no ne ↦ unmoved ne (refused-is (Fire (x .rule) (x .holder) (x .side)) t ne .words)
     ]
 
-same : {t : List ℕ} {c : ℕ} → Whole t c → (x : Trial) → Fares t c x → SameLedger t c (tried t x)
+same : {t : List ℕ} {c : ℕ} → Whole t c → (x : Trial) → Fares t c x → SameLedger t c (triedOn t x)
 same {t} {c} w x (acted e z f) =
-    let es : entriesOf (treeIn (tried t x .words) c) ≡ entriesOf (treeIn t c)
+    let es : entriesOf (treeIn (triedOn t x .words) c) ≡ entriesOf (treeIn t c)
     = ap entriesOf (f .tree) ∙ ap (map entryOf) (f .records) in
     record { whole = f .whole; ledger = rw (es, f .head changeWord (omega arith) (omega arith)) refl }
 same w x (unmoved ne e) = rw e (record { whole = w; ledger = refl })
 
 -- FIRE leaves the ledger as it was
-pub fire-ledger : {t : List ℕ} {c : ℕ} → Whole t c → (x : Trial) → SameLedger t c (tried t x)
+pub fire-ledger : {t : List ℕ} {c : ℕ} → Whole t c → (x : Trial) → SameLedger t c (triedOn t x)
 fire-ledger w x = same w x (fares w x)
 
 -- START on a table of any size: accepted, and the empty ledger

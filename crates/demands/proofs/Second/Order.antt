@@ -11,7 +11,7 @@ use Rattle.spelling.specs.Whole.{Whole}
 use Rattle.tree.proofs.Firing.Steps.{no-tree}
 use Rattle.tree.proofs.Rest.Quiet.{accepted-fires}
 use Rattle.bridge.proofs.Resting.Rests.{none-due}
-use Rattle.demands.specs.Fires.{Trial, tried, Accepted}
+use Rattle.demands.specs.Fires.{Trial, triedOn, Accepted}
 use Rattle.demands.specs.Tidying.{DueTrial, StatedOrder}
 use Rattle.demands.proofs.Open.{own-tree}
 use Rattle.demands.proofs.Second.Exact.{fire-exact}
@@ -23,7 +23,7 @@ module _ {t : List ℕ} {c : ℕ} (w : Whole t c) where
   code d = d .answer .code
 
   due-accepted : (x : Trial) → DueTrial t c x → Accepted t x
-  due-accepted x d = ap (λ (y : Trial). code (tried t y)) (d .is) ∙ ap code (due-tried w (d .slot) (x .rule) (d .due))
+  due-accepted x d = ap (λ (y : Trial). code (triedOn t y)) (d .is) ∙ ap code (due-tried w (d .slot) (x .rule) (d .due))
 
   -- WHERE NOTHING IS NEXT, fire accepts nothing
   none-accepted : nextOf t c ≡ Nothing → (x : Trial) → Accepted t x → ⊥

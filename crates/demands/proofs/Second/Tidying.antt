@@ -26,7 +26,7 @@ use Rattle.bridge.specs.Due.{Due}
 use Rattle.bridge.proofs.Resting.Searches.{next-due}
 use Rattle.ledger.specs.Ledger.{Ledger}
 use Rattle.demands.specs.Exactly.{Exactly}
-use Rattle.demands.specs.Fires.{Trial, tried}
+use Rattle.demands.specs.Fires.{Trial, triedOn}
 use Rattle.demands.specs.Tidying.{trialAt, Firings, rests, spent, next, Stopped, all-spent, at-rest, Ran, Tidies}
 use Rattle.demands.proofs.Open.{sound-gate, rest-exactly}
 use Rattle.demands.proofs.Second.Due.{link-known}
@@ -34,7 +34,7 @@ use Rattle.demands.proofs.Second.Firing.{SameLedger, fire-ledger}
 
 -- A RULE THAT IS DUE is accepted by fire, which does what tidy does
 pub due-tried : {t : List ℕ} {c : ℕ} → Whole t c → (v n : ℕ) → Due t c v n
-    → tried t (trialAt t c v n) ≡ record { answer = accepted (word t changeWord) 0 0 0; words = firedAt t c v n }
+    → triedOn t (trialAt t c v n) ≡ record { answer = accepted (word t changeWord) 0 0 0; words = firedAt t c v n }
 unfolding fireOf fired firedAt aimed
 due-tried {t} {c} w v n d =
     let l = linkTo t c v in
@@ -46,29 +46,29 @@ due-tried {t} {c} w v n d =
     rw (plan, d .is) refl
 
 pub next-fires : {t : List ℕ} {c : ℕ} → Whole t c → (v n : ℕ) → nextOf t c ≡ At v n
-    → tried t (trialAt t c v n) ≡ record { answer = accepted (word t changeWord) 0 0 0; words = firedAt t c v n }
+    → triedOn t (trialAt t c v n) ≡ record { answer = accepted (word t changeWord) 0 0 0; words = firedAt t c v n }
 next-fires {t} {c} w v n e = due-tried w v n (next-due t c v n e)
 
 -- the firings of a run with `left` to make, where `made` were
-record Run (t : List ℕ) (c left made : ℕ) : Type 0 where
+record TidyRun (t : List ℕ) (c left made : ℕ) : Type 0 where
   trials : List Trial
   firings : Firings c t left trials (tidyFrom left c t made .words)
   count : tidyFrom left c t made .fired ≡ made + length trials
 
-none-more : {left : ℕ} {t : List ℕ} {c made : ℕ} → nextOf t c ≡ Nothing → Run t c (suc left) made
+none-more : {left : ℕ} {t : List ℕ} {c made : ℕ} → nextOf t c ≡ Nothing → TidyRun t c (suc left) made
 unfolding tidyFrom
 none-more {left} {t} {c} {made} e =
     let is : tidyFrom (suc left) c t made ≡ record { fired = made; words = t } = rw e refl in
     record { trials = []; firings = rw is (rests e); count = rw is (omega arith) }
 
 one-more : {left : ℕ} {t : List ℕ} {c made : ℕ} → Whole t c → (v n : ℕ) → nextOf t c ≡ At v n
-    → Run (firedAt t c v n) c left (made + 1) → Run t c (suc left) made
+    → TidyRun (firedAt t c v n) c left (made + 1) → TidyRun t c (suc left) made
 unfolding tidyFrom
 one-more {left} {t} {c} {made} w v n e on =
     let is : tidyFrom (suc left) c t made ≡ tidyFrom left c (firedAt t c v n) (made + 1) = rw e refl in
     let x = trialAt t c v n in
     let y = next-fires w v n e in
-    let f : Firings c (tried t x .words) left (on .trials) (tidyFrom left c (firedAt t c v n) (made + 1) .words)
+    let f : Firings c (triedOn t x .words) left (on .trials) (tidyFrom left c (firedAt t c v n) (made + 1) .words)
     = rw y (on .firings) in
     record {
       trials = x ∷ on .trials;
@@ -77,14 +77,14 @@ one-more {left} {t} {c} {made} w v n e on =
     }
 
 step : {left : ℕ} {t : List ℕ} {c made : ℕ} → Whole t c → (x : Next) → nextOf t c ≡ x
-    → ((u : List ℕ) → Whole u c → Run u c left (made + 1)) → Run t c (suc left) made
+    → ((u : List ℕ) → Whole u c → TidyRun u c left (made + 1)) → TidyRun t c (suc left) made
 step w Nothing e again = none-more e
 step {left} {t} {c} w (At v n) e again =
     let x = trialAt t c v n in
     let s = fire-ledger w x in
     one-more w v n e (again (firedAt t c v n) (rw (next-fires w v n e) at (s .whole)))
 
-run : (left : ℕ) {t : List ℕ} {c : ℕ} (made : ℕ) → Whole t c → Run t c left made
+run : (left : ℕ) {t : List ℕ} {c : ℕ} (made : ℕ) → Whole t c → TidyRun t c left made
 unfolding tidyFrom
 run zero {t} {c} made w = record { trials = []; firings = spent; count = omega arith }
 run (suc left) {t} {c} made w = step w (nextOf t c) refl (λ u v. run left (made + 1) v)
@@ -105,7 +105,7 @@ firings-run {t} {t′} {c} w (next {xs = xs} v n e a f) =
     let x = trialAt t c v n in
     let s = fire-ledger w x in
     let r = firings-run (s .whole) f in
-    let same : word (tried t x .words) changeWord ≡ word t changeWord = ap (λ (l : Ledger). l .change) (s .ledger) in
+    let same : word (triedOn t x .words) changeWord ≡ word t changeWord = ap (λ (l : Ledger). l .change) (s .ledger) in
     record {
       table = r .table;
       replies = rw (a, r .replies, same) refl;

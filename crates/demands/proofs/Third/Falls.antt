@@ -13,7 +13,7 @@ use Rattle.scope.specs.Calls.{answers, after}
 use Rattle.spelling.specs.Whole.{Whole}
 use Rattle.tree.proofs.Worth.Fall.{worth-falls}
 use Rattle.tree.proofs.Rest.Quiet.{accepted-fires}
-use Rattle.demands.specs.Fires.{worthIn, Trial, tried, Accepted, fires, acceptedIn}
+use Rattle.demands.specs.Fires.{worthIn, Trial, triedOn, Accepted, fires, acceptedIn}
 use Rattle.demands.specs.Firing.{Enabled}
 use Rattle.demands.proofs.Second.Firing.{Fares, acted, unmoved, fares, fire-ledger}
 
@@ -26,14 +26,14 @@ enabled-falls t c x e =
 
 -- an attempt costs 1 of the worth if it is accepted, and nothing if not
 costs : {t : List ℕ} {c : ℕ} (x : Trial) → Fares t c x
-    → cond (eqb (tried t x .answer .code) 0) 1 0 + worthIn (tried t x .words) c ≤ worthIn t c
+    → cond (eqb (triedOn t x .answer .code) 0) 1 0 + worthIn (triedOn t x .words) c ≤ worthIn t c
 costs {t} {c} x (acted e z f) = rw z (omega (arith, enabled-falls t c x e, ap worthOf (f .tree)))
 costs {t} {c} x (unmoved ne same) =
-    rw (ne-eqb (tried t x .answer .code) 0 ne) (omega (arith, ap (λ (u : List ℕ). worthIn u c) same))
+    rw (ne-eqb (triedOn t x .answer .code) 0 ne) (omega (arith, ap (λ (u : List ℕ). worthIn u c) same))
 
 -- THE WORTH FALLS at every accepted call of fire
 pub worth-falls-at : {t : List ℕ} {c : ℕ} → Whole t c → (x : Trial) → Accepted t x
-    → worthIn (tried t x .words) c < worthIn t c
+    → worthIn (triedOn t x .words) c < worthIn t c
 worth-falls-at w x z = omega (arith, rw z at (costs x (fares w x)))
 
 -- NO MORE ARE ACCEPTED THAN THE WORTH, in any list of attempts; what is left of it is the worth at the end

@@ -143,7 +143,7 @@ module _ (c : ℕ) (m : c ≤ mostSlots) where
       node-fills k d a b l r n i h t (fill l t) (fill r (fill l t)) L R
 
 -- a sound table with no free slot that spells a tree
-pub record Filled (T : Tree) : Type 0 where
+pub record FilledTable (T : Tree) : Type 0 where
   pub words : List ℕ
   pub whole : Whole words (size T)
   pub tree : whole .sound .tree ≡ T
@@ -203,6 +203,6 @@ module _ (T : Tree) (n : SlotsNumbered 0 T) (o : Ordered T) (i : Balanced T) (fi
         rest = λ k p q z. absurd (omega (arith, between-once T 0 k n p (omega arith), z));
       }
 
-  pub filled : Filled T
+  pub filled : FilledTable T
   unfolding full-sound
   filled = record { words = fill T headed; whole = record { sized = full .sized; sound = full-sound }; tree = refl }

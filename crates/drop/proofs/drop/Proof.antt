@@ -61,17 +61,5 @@ returns-3 c =
 pub drop-spec : {M : Type 1} → statement M
 drop-spec =
     tie.close
-    (tie.spec
-    plan-drop-requires
-    enum-known-why
-    refuse-requires
-    enum-known-slot
-    lift-requires
-    enum-known-slot-2
-    replace-requires
-    same-length
-    returns
-    same-length-2
-    returns-2
-    same-length-3
-    returns-3)
+    (tie.spec plan-drop-requires enum-known-why refuse-requires enum-known-slot lift-requires enum-known-slot-2
+    replace-requires same-length returns same-length-2 returns-2 same-length-3 returns-3)

@@ -48,13 +48,5 @@ returns c =
 pub replace-spec : {M : Type 1} → statement M
 replace-spec =
     tie.close
-    (tie.spec
-    records-requires
-    change-requires
-    slot-at-requires
-    take-record-requires
-    wide-requires
-    relink-requires
-    vacate-requires
-    same-length
-    returns)
+    (tie.spec records-requires change-requires slot-at-requires take-record-requires wide-requires relink-requires
+    vacate-requires same-length returns)

@@ -81,14 +81,5 @@ returns-3 c =
 pub drop-at-spec : {M : Type 1} → statement M
 drop-at-spec =
     tie.close
-    (tie.spec
-    slot-at-requires
-    wide-requires
-    wide-requires-2
-    if-may-requires
-    returns
-    if-may-requires-2
-    returns-2
-    sub-replacing
-    replacing-requires
-    returns-3)
+    (tie.spec slot-at-requires wide-requires wide-requires-2 if-may-requires returns if-may-requires-2 returns-2
+    sub-replacing replacing-requires returns-3)

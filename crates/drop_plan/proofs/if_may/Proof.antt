@@ -25,7 +25,12 @@ returns-2 c =
     let i = c .before .before in
     let s = i .before .before .before in
     record {
-      is = simp (sym (i .before .records .ensures), ne-eqb _ _ (i .if1 .left), sym (c .before .change .ensures), lt-ltb _ _ (c .if2 .taken));
+      is = simp (
+        sym (i .before .records .ensures),
+        ne-eqb _ _ (i .if1 .left),
+        sym (c .before .change .ensures),
+        lt-ltb _ _ (c .if2 .taken),
+      );
       can = can-drop (now (s .args .t)) (s .args .plan) (s .pre .1) (record { some = omega arith; change = omega arith });
     }
 

@@ -60,16 +60,5 @@ returns-3 c =
 pub leftmost-spec : {M : Type 1} → statement M
 leftmost-spec =
     tie.close
-    (tie.spec
-    Inv-loop
-    μ-loop
-    loop-holds
-    slot-at-requires
-    fit-requires
-    wide-requires
-    sub-more
-    loop-less
-    loop-again
-    returns
-    returns-2
-    returns-3)
+    (tie.spec Inv-loop μ-loop loop-holds slot-at-requires fit-requires wide-requires sub-more loop-less loop-again
+    returns returns-2 returns-3)

@@ -39,11 +39,4 @@ returns-2 c =
 pub plan-drop-spec : {M : Type 1} → statement M
 plan-drop-spec =
     tie.close
-    (tie.spec
-    enter-requires
-    enum-known-why
-    enum-known-c
-    search-requires
-    dropping-at-requires
-    returns
-    returns-2)
+    (tie.spec enter-requires enum-known-why enum-known-c search-requires dropping-at-requires returns returns-2)

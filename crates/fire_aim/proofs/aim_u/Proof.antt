@@ -24,38 +24,51 @@ has-third-requires : tie.Need-has-third-requires
 has-third-requires c κs = search needs
 
 aim-w-requires : tie.Need-aim-w-requires
-aim-w-requires c κs = let a = c .before .before .before .before .before .before .before .before .args in
-    let p = c .before .before .before .before .before .before .before .before .pre in
-    let k = took _ _ _ _ _ _ (sym (c .before .before .before .before .before .take .ensures) ∙ c .before .before .before .su .given .1) in
-    (p .0, k .first, rw (c .before .before .before .before .before .before .son .ensures) (p .1), fit-son (a .c) _ (other (a .r .side)) (k .fit))
+aim-w-requires c κs =
+    let b3 = c .before .before .before in
+    let b5 = b3 .before .before in
+    let b6 = b5 .before in
+    let b8 = b6 .before .before in
+    let a = b8 .args in
+    let p = b8 .pre in
+    let k = took _ _ _ _ _ _ (sym (b5 .take .ensures) ∙ b3 .su .given .1) in
+    (p .0, k .first, rw (b6 .son .ensures) (p .1), fit-son (a .c) _ (other (a .r .side)) (k .fit))
 
 judge-requires : tie.Need-judge-requires
 judge-requires c κs = search needs
 
 returns : tie.Need-returns
-returns c = let a = c .before .before .before .before .before .before .args in
-    aim-u-not (c .before .before .before .before .before .before .pre .0) (a .r) (a .sv) _ (c .before .before .before .before .son .ensures) (sym (c .before .before .before .take .ensures) ∙ c .before .why .given .1)
+returns c =
+    let b3 = c .before .before .before in
+    let b4 = b3 .before in
+    let b6 = b4 .before .before in
+    let a = b6 .args in
+    aim-u-not (b6 .pre .0) (a .r) (a .sv) _ (b4 .son .ensures) (sym (b3 .take .ensures) ∙ c .before .why .given .1)
 
 returns-2 : tie.Need-returns-2
-returns-2 c = let a = c .before .before .before .before .before .before .before .before .before .args in
-    aim-u-third (c .before .before .before .before .before .before .before .before .before .pre .0) (a .r) (a .sv) _ (c .before .before .before .before .before .before .before .son .ensures) (sym (c .before .before .before .before .before .before .take .ensures) ∙ c .before .before .before .before .su .given .1) (sym (c .before .before .has-third .ensures) ∙ c .before .if1 .taken) (c .aim-w .ensures)
+returns-2 c =
+    let b4 = c .before .before .before .before in
+    let b6 = b4 .before .before in
+    let b7 = b6 .before in
+    let b9 = b7 .before .before in
+    let a = b9 .args in
+    aim-u-third (b9 .pre .0) (a .r) (a .sv) _ (b7 .son .ensures) (sym (b6 .take .ensures) ∙ b4 .su .given .1)
+    (sym (c .before .before .has-third .ensures) ∙ c .before .if1 .taken) (c .aim-w .ensures)
 
 returns-3 : tie.Need-returns-3
-returns-3 c = let a = c .before .before .before .before .before .before .before .before .before .args in
-    let p = c .before .before .before .before .before .before .before .before .before .pre in
-    aim-u-got (p .0) (a .r) (a .sv) _ (c .before .before .before .before .before .before .before .son .ensures) (rw (c .before .before .before .before .before .before .before .son .ensures) (p .1)) (sym (c .before .before .before .before .before .before .take .ensures) ∙ c .before .before .before .before .su .given .1) (sym (c .before .before .has-third .ensures) ∙ c .before .if1 .left) (c .judge .ensures)
+returns-3 c =
+    let b4 = c .before .before .before .before in
+    let b6 = b4 .before .before in
+    let b7 = b6 .before in
+    let b9 = b7 .before .before in
+    let a = b9 .args in
+    let p = b9 .pre in
+    aim-u-got (p .0) (a .r) (a .sv) _ (b7 .son .ensures) (rw (b7 .son .ensures) (p .1))
+    (sym (b6 .take .ensures) ∙ b4 .su .given .1) (sym (c .before .before .has-third .ensures) ∙ c .before .if1 .left)
+    (c .judge .ensures)
 
 pub aim-u-spec : {M : Type 1} → statement M
 aim-u-spec =
     tie.close
-    (tie.spec
-    son-requires
-    take-requires
-    enum-known-why
-    enum-known-su
-    has-third-requires
-    aim-w-requires
-    judge-requires
-    returns
-    returns-2
-    returns-3)
+    (tie.spec son-requires take-requires enum-known-why enum-known-su has-third-requires aim-w-requires judge-requires
+    returns returns-2 returns-3)

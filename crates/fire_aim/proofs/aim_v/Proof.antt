@@ -20,22 +20,28 @@ enum-known-sv : tie.Need-enum-known-sv
 enum-known-sv c = search needs
 
 aim-u-requires : tie.Need-aim-u-requires
-aim-u-requires c κs = aim-v-near (c .before .before .before .before .before .before .pre) (c .before .before .before .before .before .before .args .r) _ (c .before .before .before .before .link-at .ensures) (sym (c .before .before .before .take .ensures) ∙ c .before .sv .given .1)
+aim-u-requires c κs =
+    let b3 = c .before .before .before in
+    let b4 = b3 .before in
+    let b6 = b4 .before .before in
+    aim-v-near (b6 .pre) (b6 .args .r) _ (b4 .link-at .ensures) (sym (b3 .take .ensures) ∙ c .before .sv .given .1)
 
 returns : tie.Need-returns
-returns c = aim-v-not (c .before .before .before .before .before .before .pre) (c .before .before .before .before .before .before .args .r) _ (c .before .before .before .before .link-at .ensures) (sym (c .before .before .before .take .ensures) ∙ c .before .why .given .1)
+returns c =
+    let b3 = c .before .before .before in
+    let b4 = b3 .before in
+    let b6 = b4 .before .before in
+    aim-v-not (b6 .pre) (b6 .args .r) _ (b4 .link-at .ensures) (sym (b3 .take .ensures) ∙ c .before .why .given .1)
 
 returns-2 : tie.Need-returns-2
-returns-2 c = aim-v-got (c .before .before .before .before .before .before .before .pre) (c .before .before .before .before .before .before .before .args .r) _ (c .before .before .before .before .before .link-at .ensures) (sym (c .before .before .before .before .take .ensures) ∙ c .before .before .sv .given .1) (c .aim-u .ensures)
+returns-2 c =
+    let b4 = c .before .before .before .before in
+    let b5 = b4 .before in
+    let b7 = b5 .before .before in
+    aim-v-got (b7 .pre) (b7 .args .r) _ (b5 .link-at .ensures)
+    (sym (b4 .take .ensures) ∙ c .before .before .sv .given .1) (c .aim-u .ensures)
 
 pub aim-v-spec : {M : Type 1} → statement M
 aim-v-spec =
     tie.close
-    (tie.spec
-    link-at-requires
-    take-requires
-    enum-known-why
-    enum-known-sv
-    aim-u-requires
-    returns
-    returns-2)
+    (tie.spec link-at-requires take-requires enum-known-why enum-known-sv aim-u-requires returns returns-2)

@@ -25,25 +25,29 @@ judge-requires : tie.Need-judge-requires
 judge-requires c κs = search needs
 
 returns : tie.Need-returns
-returns c = let a = c .before .before .before .before .before .before .before .args in
-    let p = c .before .before .before .before .before .before .before .pre in
-    aim-w-not (p .0) (a .r) (a .sv) (a .u) (a .su) _ (c .before .before .before .before .son .ensures ∙ ap (son (a .su)) (c .before .before .before .before .before .other .ensures)) (sym (c .before .before .before .take .ensures) ∙ c .before .why .given .1)
+returns c =
+    let b3 = c .before .before .before in
+    let b4 = b3 .before in
+    let b5 = b4 .before in
+    let b7 = b5 .before .before in
+    let a = b7 .args in
+    let p = b7 .pre in
+    aim-w-not (p .0) (a .r) (a .sv) (a .u) (a .su) _ (b4 .son .ensures ∙ ap (son (a .su)) (b5 .other .ensures))
+    (sym (b3 .take .ensures) ∙ c .before .why .given .1)
 
 returns-2 : tie.Need-returns-2
-returns-2 c = let a = c .before .before .before .before .before .before .before .before .args in
-    let p = c .before .before .before .before .before .before .before .before .pre in
-    let e = c .before .before .before .before .before .son .ensures ∙ ap (son (a .su)) (c .before .before .before .before .before .before .other .ensures) in
-    aim-w-got (p .0) (a .r) (a .sv) (a .u) (a .su) _ e (p .1) (p .2) (rw e (p .3)) (sym (c .before .before .before .before .take .ensures) ∙ c .before .before .sw .given .1) (c .judge .ensures)
+returns-2 c =
+    let b4 = c .before .before .before .before in
+    let b5 = b4 .before in
+    let b6 = b5 .before in
+    let b8 = b6 .before .before in
+    let a = b8 .args in
+    let p = b8 .pre in
+    let e = b5 .son .ensures ∙ ap (son (a .su)) (b6 .other .ensures) in
+    aim-w-got (p .0) (a .r) (a .sv) (a .u) (a .su) _ e (p .1) (p .2) (rw e (p .3))
+    (sym (b4 .take .ensures) ∙ c .before .before .sw .given .1) (c .judge .ensures)
 
 pub aim-w-spec : {M : Type 1} → statement M
 aim-w-spec =
     tie.close
-    (tie.spec
-    other-requires
-    son-requires
-    take-requires
-    enum-known-why
-    enum-known-sw
-    judge-requires
-    returns
-    returns-2)
+    (tie.spec other-requires son-requires take-requires enum-known-why enum-known-sw judge-requires returns returns-2)

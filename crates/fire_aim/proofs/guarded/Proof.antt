@@ -19,7 +19,15 @@ guard-requires c κs = search needs
 
 returns : tie.Need-returns
 unfolding guardAt
-returns c = simp (sym (c .before .before .before .seen .ensures), sym (c .before .before .seen2 .ensures), sym (c .before .seen3 .ensures), sym (c .guard .ensures))
+returns c =
+    let b3 = c .before .before .before in
+    simp (
+      sym (b3 .seen .ensures),
+      sym (c .before .before .seen2 .ensures),
+      sym (c .before .seen3 .ensures),
+      sym
+          (c .guard .ensures),
+    )
 
 pub guarded-spec : {M : Type 1} → statement M
 guarded-spec =

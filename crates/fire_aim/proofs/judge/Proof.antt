@@ -13,11 +13,15 @@ within-requires c κs = search needs
 
 returns : tie.Need-returns
 unfolding judged
-returns c = simp (sym (c .before .before .before .guarded .ensures), c .before .before .if1 .taken, sym (c .before .within .ensures), c .if2 .taken)
+returns c =
+    let b3 = c .before .before .before in
+    simp (sym (b3 .guarded .ensures), c .before .before .if1 .taken, sym (c .before .within .ensures), c .if2 .taken)
 
 returns-2 : tie.Need-returns-2
 unfolding judged
-returns-2 c = simp (sym (c .before .before .before .guarded .ensures), c .before .before .if1 .taken, sym (c .before .within .ensures), c .if2 .left)
+returns-2 c =
+    let b3 = c .before .before .before in
+    simp (sym (b3 .guarded .ensures), c .before .before .if1 .taken, sym (c .before .within .ensures), c .if2 .left)
 
 returns-3 : tie.Need-returns-3
 unfolding judged

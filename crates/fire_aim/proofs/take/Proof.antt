@@ -18,11 +18,25 @@ fit-requires c κs = search needs
 
 returns-2 : tie.Need-returns-2
 unfolding takeOf
-returns-2 c = simp (ne-eqb _ _ (c .before .before .before .if1 .left), sym (c .before .before .slot-at .ensures), sym (c .before .fit .ensures), c .if2 .taken)
+returns-2 c =
+    let b3 = c .before .before .before in
+    simp (
+      ne-eqb _ _ (b3 .if1 .left),
+      sym (c .before .before .slot-at .ensures),
+      sym (c .before .fit .ensures),
+      c .if2 .taken,
+    )
 
 returns-3 : tie.Need-returns-3
 unfolding takeOf
-returns-3 c = simp (ne-eqb _ _ (c .before .before .before .if1 .left), sym (c .before .before .slot-at .ensures), sym (c .before .fit .ensures), c .if2 .left)
+returns-3 c =
+    let b3 = c .before .before .before in
+    simp (
+      ne-eqb _ _ (b3 .if1 .left),
+      sym (c .before .before .slot-at .ensures),
+      sym (c .before .fit .ensures),
+      c .if2 .left,
+    )
 
 pub take-spec : {M : Type 1} → statement M
 take-spec = tie.close (tie.spec returns slot-at-requires fit-requires returns-2 returns-3)

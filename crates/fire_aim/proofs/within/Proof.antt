@@ -29,22 +29,26 @@ enum-told-2 c = search needs
 
 returns : tie.Need-returns
 unfolding highestAt
-returns c = let h = sym (height-within _ (sym (c .before .before .of .ensures) ∙ c .enum-told .given .1)) in simp (sym (c .before .before .before .before .before .before .seen .ensures), sym (c .before .before .before .before .before .seen2 .ensures), sym (c .before .before .before .before .seen3 .ensures), sym (c .before .before .before .highest .ensures)) h
+returns c =
+    let b3 = c .before .before .before in
+    let b4 = b3 .before in
+    let b5 = b4 .before in
+    let b6 = b5 .before in
+    let h = sym (height-within _ (sym (c .before .before .of .ensures) ∙ c .enum-told .given .1)) in
+    simp (sym (b6 .seen .ensures), sym (b5 .seen2 .ensures), sym (b4 .seen3 .ensures), sym (b3 .highest .ensures)) h
 
 returns-2 : tie.Need-returns-2
 unfolding highestAt
-returns-2 c = let h = sym (height-above _ (sym (c .before .before .of .ensures) ∙ c .enum-told2 .given .1)) in simp (sym (c .before .before .before .before .before .before .seen .ensures), sym (c .before .before .before .before .before .seen2 .ensures), sym (c .before .before .before .before .seen3 .ensures), sym (c .before .before .before .highest .ensures)) h
+returns-2 c =
+    let b3 = c .before .before .before in
+    let b4 = b3 .before in
+    let b5 = b4 .before in
+    let b6 = b5 .before in
+    let h = sym (height-above _ (sym (c .before .before .of .ensures) ∙ c .enum-told2 .given .1)) in
+    simp (sym (b6 .seen .ensures), sym (b5 .seen2 .ensures), sym (b4 .seen3 .ensures), sym (b3 .highest .ensures)) h
 
 pub within-spec : {M : Type 1} → statement M
 within-spec =
     tie.close
-    (tie.spec
-    seen-requires
-    seen-requires-2
-    seen-requires-3
-    highest-requires
-    of-requires
-    enum-told
-    enum-told-2
-    returns
+    (tie.spec seen-requires seen-requires-2 seen-requires-3 highest-requires of-requires enum-told enum-told-2 returns
     returns-2)

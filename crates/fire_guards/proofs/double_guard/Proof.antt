@@ -16,7 +16,9 @@ lean-requires : tie.Need-lean-requires
 lean-requires c κs = search needs
 
 returns : tie.Need-returns
-returns c = simp (c .before .before .before .reliable .ensures, c .before .before .reliable2 .ensures, c .before .heavy .ensures, c .lean .ensures)
+returns c =
+    let b3 = c .before .before .before in
+    simp (b3 .reliable .ensures, c .before .before .reliable2 .ensures, c .before .heavy .ensures, c .lean .ensures)
 
 pub double-guard-spec : {M : Type 1} → statement M
 double-guard-spec =

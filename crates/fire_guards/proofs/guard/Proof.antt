@@ -42,16 +42,5 @@ returns-4 c = simp (c .before .enum-told4 .given .1) (c .double-guard .ensures)
 pub guard-spec : {M : Type 1} → statement M
 guard-spec =
     tie.close
-    (tie.spec
-    enum-told
-    reliable-requires
-    enum-told-2
-    turn-guard-requires
-    enum-told-3
-    turn-guard-requires-2
-    enum-told-4
-    double-guard-requires
-    returns
-    returns-2
-    returns-3
-    returns-4)
+    (tie.spec enum-told reliable-requires enum-told-2 turn-guard-requires enum-told-3 turn-guard-requires-2
+    enum-told-4 double-guard-requires returns returns-2 returns-3 returns-4)

@@ -43,23 +43,12 @@ returns-3 : tie.Need-returns-3
 returns-3 c = simp (c .before .enum-told3 .given .1) (c .over2 .ensures)
 
 returns-4 : tie.Need-returns-4
-returns-4 c = simp (c .before .before .before .enum-told4 .given .1, c .before .before .over3 .ensures, c .before .over4 .ensures, c .larger .ensures)
+returns-4 c =
+    let b3 = c .before .before .before in
+    simp (b3 .enum-told4 .given .1, c .before .before .over3 .ensures, c .before .over4 .ensures, c .larger .ensures)
 
 pub highest-spec : {M : Type 1} → statement M
 highest-spec =
     tie.close
-    (tie.spec
-    enum-told
-    localh-requires
-    enum-told-2
-    over-requires
-    enum-told-3
-    over-requires-2
-    enum-told-4
-    over-requires-3
-    over-requires-4
-    larger-requires
-    returns
-    returns-2
-    returns-3
-    returns-4)
+    (tie.spec enum-told localh-requires enum-told-2 over-requires enum-told-3 over-requires-2 enum-told-4
+    over-requires-3 over-requires-4 larger-requires returns returns-2 returns-3 returns-4)

@@ -14,7 +14,11 @@ lean-requires : tie.Need-lean-requires
 lean-requires c κs = search needs
 
 returns : tie.Need-returns
-returns c = let a = c .before .before .before .args in simp (c .before .before .reliable .ensures, c .before .heavy .ensures, c .lean .ensures) (turn-guard (a .even) (a .v) (a .u))
+returns c =
+    let b3 = c .before .before .before in
+    let a = b3 .args in
+    simp (c .before .before .reliable .ensures, c .before .heavy .ensures, c .lean .ensures)
+    (turn-guard (a .even) (a .v) (a .u))
 
 pub turn-guard-spec : {M : Type 1} → statement M
 turn-guard-spec = tie.close (tie.spec reliable-requires heavy-requires lean-requires returns)

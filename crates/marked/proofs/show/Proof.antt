@@ -44,16 +44,5 @@ returns c = search needs
 pub show-spec : {M : Type 1} → statement M
 show-spec =
     tie.close
-    (tie.spec
-    Inv-loop
-    μ-loop
-    loop-holds
-    mul-long
-    shared-slice-read-long
-    long-requires
-    number-requires
-    add-i
-    loop-less
-    loop-again
-    end-line-requires
-    returns)
+    (tie.spec Inv-loop μ-loop loop-holds mul-long shared-slice-read-long long-requires number-requires add-i loop-less
+    loop-again end-line-requires returns)

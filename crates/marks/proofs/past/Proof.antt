@@ -22,10 +22,14 @@ add-result-2 : tie.Need-add-result-2
 add-result-2 c = search needs
 
 returns : tie.Need-returns
-returns c = past-word (now (c .before .before .args .m)) (c .before .before .args .k) (c .before .before .args .whole) _ refl (c .before .before .pre) (c .if1 .taken)
+returns c =
+    past-word (now (c .before .before .args .m)) (c .before .before .args .k) (c .before .before .args .whole) _ refl
+    (c .before .before .pre) (c .if1 .taken)
 
 returns-2 : tie.Need-returns-2
-returns-2 c = past-one (now (c .before .before .args .m)) (c .before .before .args .k) (c .before .before .args .whole) (c .before .before .pre)
+returns-2 c =
+    past-one (now (c .before .before .args .m)) (c .before .before .args .k) (c .before .before .args .whole)
+    (c .before .before .pre)
 
 pub past-spec : {M : Type 1} → statement M
 past-spec =

@@ -40,12 +40,5 @@ returns c =
 pub hang-spec : {M : Type 1} → statement M
 hang-spec =
     tie.close
-    (tie.spec
-    records-requires
-    change-requires
-    put-slot-requires
-    put-link-requires
-    add-settle
-    settle-requires
-    same-length
-    returns)
+    (tie.spec records-requires change-requires put-slot-requires put-link-requires add-settle settle-requires
+    same-length returns)

@@ -43,12 +43,4 @@ returns-4 c =
 pub hang-at-spec : {M : Type 1} → statement M
 hang-at-spec =
     tie.close
-    (tie.spec
-    returns
-    slot-at-requires
-    blank-requires
-    records-requires
-    change-requires
-    returns-2
-    returns-3
-    returns-4)
+    (tie.spec returns slot-at-requires blank-requires records-requires change-requires returns-2 returns-3 returns-4)

@@ -46,12 +46,5 @@ returns-2 c =
 pub plan-post-spec : {M : Type 1} → statement M
 plan-post-spec =
     tie.close
-    (tie.spec
-    record-ok-requires
-    enter-requires
-    enum-known-why
-    enum-known-c
-    search-requires
-    posting-at-requires
-    returns
-    returns-2)
+    (tie.spec record-ok-requires enter-requires enum-known-why enum-known-c search-requires posting-at-requires
+    returns returns-2)

@@ -47,14 +47,5 @@ returns-2 c =
 pub post-spec : {M : Type 1} → statement M
 post-spec =
     tie.close
-    (tie.spec
-    plan-post-requires
-    enum-known-why
-    refuse-requires
-    enum-known-slot
-    leaf-requires
-    hang-requires
-    same-length
-    returns
-    same-length-2
-    returns-2)
+    (tie.spec plan-post-requires enum-known-why refuse-requires enum-known-slot leaf-requires hang-requires
+    same-length returns same-length-2 returns-2)

@@ -39,12 +39,4 @@ returns-3 c =
 pub posting-at-spec : {M : Type 1} → statement M
 posting-at-spec =
     tie.close
-    (tie.spec
-    enum-told
-    enum-told-2
-    enum-known-w
-    free-slot-requires
-    hang-at-requires
-    returns
-    returns-2
-    returns-3)
+    (tie.spec enum-told enum-told-2 enum-known-w free-slot-requires hang-at-requires returns returns-2 returns-3)

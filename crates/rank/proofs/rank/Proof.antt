@@ -63,13 +63,5 @@ returns-2 c =
 pub rank-spec : {M : Type 1} → statement M
 rank-spec =
     tie.close
-    (tie.spec
-    enter-sound-requires
-    enum-known-why
-    refuse-requires
-    enum-known-c
-    wide-requires
-    rank-in-requires
-    ranked-requires
-    returns
-    returns-2)
+    (tie.spec enter-sound-requires enum-known-why refuse-requires enum-known-c wide-requires rank-in-requires
+    ranked-requires returns returns-2)

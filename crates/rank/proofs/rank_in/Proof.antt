@@ -49,11 +49,4 @@ returns-2 c =
 pub rank-in-spec : {M : Type 1} → statement M
 rank-in-spec =
     tie.close
-    (tie.spec
-    records-requires
-    returns
-    root-requires
-    add-wanted
-    rank-at-requires
-    rank-said-requires
-    returns-2)
+    (tie.spec records-requires returns root-requires add-wanted rank-at-requires rank-said-requires returns-2)

@@ -31,11 +31,4 @@ returns-2 c = simp (c .before .enum-told .given .1, sym (c .refuse .ensures))
 pub ranked-spec : {M : Type 1} → statement M
 ranked-spec =
     tie.close
-    (tie.spec
-    enum-known-found
-    size-requires
-    told-requires
-    enum-told
-    refuse-requires
-    returns
-    returns-2)
+    (tie.spec enum-known-found size-requires told-requires enum-told refuse-requires returns returns-2)

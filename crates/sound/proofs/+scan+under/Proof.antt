@@ -86,7 +86,8 @@ pub +scan+under-spec : {M : Type 1} → statement M
     let w = c .before .before .before .before .before in
     let v = w .before .before .before .before .before .loop .inv in
     let o = rw (w .left .given .1) at (w .before .before .visit .ensures) in
-    along-end v o _ _ (c .before .before .under .ensures) (c .before .if2 .left) (w .before .before .before .before .if1 .left) (c .if3 .taken))
+    along-end v o _ _ (c .before .before .under .ensures) (c .before .if2 .left)
+    (w .before .before .before .before .if1 .left) (c .if3 .taken))
     -- loop-less
     (λ c.
     let w = c .before .before .before .before .before in
@@ -98,7 +99,8 @@ pub +scan+under-spec : {M : Type 1} → statement M
     let w = c .before .before .before .before .before in
     let v = w .before .before .before .before .before .loop .inv in
     let o = rw (w .left .given .1) at (w .before .before .visit .ensures) in
-    along-right v o _ _ (c .before .before .under .ensures) (c .before .if2 .left) (w .before .before .before .before .if1 .left) (c .if3 .left)))
+    along-right v o _ _ (c .before .before .under .ensures) (c .before .if2 .left)
+    (w .before .before .before .before .if1 .left) (c .if3 .left)))
     λ t. under-lts.spec
     (scan-below t, scan.Post)
     (under-at t)

@@ -44,11 +44,4 @@ returns-2 c =
 pub check-spec : {M : Type 1} → statement M
 check-spec =
     tie.close
-    (tie.spec
-    enter-sound-requires
-    enum-known-why
-    refuse-requires
-    enum-told
-    told-requires
-    returns
-    returns-2)
+    (tie.spec enter-sound-requires enum-known-why refuse-requires enum-told told-requires returns returns-2)

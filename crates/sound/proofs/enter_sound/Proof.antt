@@ -36,11 +36,4 @@ returns-3 c =
 pub enter-sound-spec : {M : Type 1} → statement M
 enter-sound-spec =
     tie.close
-    (tie.spec
-    enter-requires
-    enum-known-why
-    enum-known-c
-    sound-requires
-    returns
-    returns-2
-    returns-3)
+    (tie.spec enter-requires enum-known-why enum-known-c sound-requires returns returns-2 returns-3)

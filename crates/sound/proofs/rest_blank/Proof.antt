@@ -48,13 +48,4 @@ returns-2 c = λ j p q. c .before .loop .inv .1 j p (omega arith)
 pub rest-blank-spec : {M : Type 1} → statement M
 rest-blank-spec =
     tie.close
-    (tie.spec
-    Inv-loop
-    μ-loop
-    loop-holds
-    settled-requires
-    past-requires
-    loop-less
-    loop-again
-    returns
-    returns-2)
+    (tie.spec Inv-loop μ-loop loop-holds settled-requires past-requires loop-less loop-again returns returns-2)

@@ -60,12 +60,5 @@ returns-3 c = sym (by-header _ _ (sym (c .before .header-ok .ensures) ∙ c .if1
 pub sound-spec : {M : Type 1} → statement M
 sound-spec =
     tie.close
-    (tie.spec
-    header-ok-requires
-    records-requires
-    root-requires
-    from-root-requires
-    rest-blank-requires
-    returns
-    returns-2
-    returns-3)
+    (tie.spec header-ok-requires records-requires root-requires from-root-requires rest-blank-requires returns
+    returns-2 returns-3)

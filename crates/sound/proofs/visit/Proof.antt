@@ -44,14 +44,5 @@ returns-3 c =
 pub visit-spec : {M : Type 1} → statement M
 visit-spec =
     tie.close
-    (tie.spec
-    marked-requires
-    returns
-    slot-at-requires
-    in-place-requires
-    mark-requires
-    wide-requires
-    wide-requires-2
-    long-requires
-    returns-2
-    returns-3)
+    (tie.spec marked-requires returns slot-at-requires in-place-requires mark-requires wide-requires wide-requires-2
+    long-requires returns-2 returns-3)

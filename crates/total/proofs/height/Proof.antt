@@ -54,13 +54,5 @@ returns-2 c =
 pub height-spec : {M : Type 1} → statement M
 height-spec =
     tie.close
-    (tie.spec
-    enter-sound-requires
-    enum-known-why
-    refuse-requires
-    enum-known-c
-    height-in-requires
-    size-requires
-    told-requires
-    returns
-    returns-2)
+    (tie.spec enter-sound-requires enum-known-why refuse-requires enum-known-c height-in-requires size-requires
+    told-requires returns returns-2)

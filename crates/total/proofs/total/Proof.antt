@@ -48,12 +48,5 @@ returns-2 c =
 pub total-spec : {M : Type 1} → statement M
 total-spec =
     tie.close
-    (tie.spec
-    enter-sound-requires
-    enum-known-why
-    refuse-requires
-    enum-known-c
-    total-in-requires
-    told-requires
-    returns
+    (tie.spec enter-sound-requires enum-known-why refuse-requires enum-known-c total-in-requires told-requires returns
     returns-2)

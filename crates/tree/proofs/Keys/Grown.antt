@@ -69,5 +69,11 @@ module _ (new : Batch) where
       (λ p left right. by-bool (ltb (new .key) (d .key))
       (λ f. simp (p, f)
       (grown-below (d .key) l (left f) (ltb-true (new .key) (d .key) f) (h .0), h .1, grown-ordered l (left f) (h .2), h .3))
-      (λ f. simp (p, f)
-      (h .0, grown-above (d .key) r (right f) (omega (arith, ltb-false (new .key) (d .key) f, eqb-false (new .key) (d .key) p)) (h .1), h .2, grown-ordered r (right f) (h .3))))
+      (λ f. simp (p, f) (
+        h .0,
+        grown-above (d .key) r (right f) (omega
+            (arith, ltb-false (new .key) (d .key) f, eqb-false (new .key) (d .key) p)) (h .1),
+        h .2,
+        grown-ordered r
+            (right f) (h .3),
+      )))

@@ -28,23 +28,25 @@ found-requires c κs =
 
 returns : tie.Need-returns
 unfolding findAnswer
-returns c = let b = c .before .before in simp (sym (b .before .before .enter .ensures), b .why .given .1, sym (c .refuse .ensures)) (refl, refl)
+returns c =
+    let b = c .before .before in
+    simp (sym (b .before .before .enter .ensures), b .why .given .1, sym (c .refuse .ensures)) (refl, refl)
 
 returns-2 : tie.Need-returns-2
 unfolding findAnswer
 returns-2 c =
-    let b = c .before .before .before in
-    simp (sym (b .before .before .enter .ensures), b .c .given .1, sym (c .before .search .ensures .is), sym (c .found .ensures)) (refl, refl)
+    let b3 = c .before .before .before in
+    let b = b3 in
+    simp (
+      sym (b .before .before .enter .ensures),
+      b .c .given .1,
+      sym (c .before .search .ensures .is),
+      sym
+          (c .found .ensures),
+    ) (refl, refl)
 
 pub find-spec : {M : Type 1} → statement M
 find-spec =
     tie.close
-    (tie.spec
-    enter-requires
-    enum-known-why
-    refuse-requires
-    enum-known-c
-    search-requires
-    found-requires
-    returns
+    (tie.spec enter-requires enum-known-why refuse-requires enum-known-c search-requires found-requires returns
     returns-2)

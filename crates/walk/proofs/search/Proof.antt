@@ -76,19 +76,5 @@ returns-4 c =
 pub search-spec : {M : Type 1} → statement M
 search-spec =
     tie.close
-    (tie.spec
-    Inv-loop
-    μ-loop
-    root-requires
-    loop-holds
-    slot-at-requires
-    way-requires
-    son-requires
-    add-seen
-    fit-requires
-    loop-less
-    loop-again
-    returns
-    returns-2
-    returns-3
-    returns-4)
+    (tie.spec Inv-loop μ-loop root-requires loop-holds slot-at-requires way-requires son-requires add-seen
+    fit-requires loop-less loop-again returns returns-2 returns-3 returns-4)

@@ -49,13 +49,5 @@ returns c =
 pub own-weight-spec : {M : Type 1} → statement M
 own-weight-spec =
     tie.close
-    (tie.spec
-    localh-requires
-    carry-requires
-    long-requires
-    long-requires-2
-    gap-requires
-    mul-result
-    balance-requires
-    add-result
-    returns)
+    (tie.spec localh-requires carry-requires long-requires long-requires-2 gap-requires mul-result balance-requires
+    add-result returns)

@@ -48,12 +48,5 @@ returns-2 c =
 pub worth-spec : {M : Type 1} → statement M
 worth-spec =
     tie.close
-    (tie.spec
-    enter-sound-requires
-    enum-known-why
-    refuse-requires
-    enum-known-c
-    worth-in-requires
-    told-requires
-    returns
+    (tie.spec enter-sound-requires enum-known-why refuse-requires enum-known-c worth-in-requires told-requires returns
     returns-2)

@@ -33,43 +33,44 @@ same-length : tie.Need-same-length
 same-length c = search needs
 
 returns : tie.Need-returns
-returns c = let p = c .before .before .before .before .before .before .before .pre in acted (p .0) (p .1) Propagate (c .before .before .before .before .enum-told .given .1) (c .before .before .propagate .ensures)
+returns c =
+    let b4 = c .before .before .before .before in
+    let b7 = b4 .before .before .before in
+    let p = b7 .pre in
+    acted (p .0) (p .1) Propagate (b4 .enum-told .given .1) (c .before .before .propagate .ensures)
 
 same-length-2 : tie.Need-same-length-2
 same-length-2 c = search needs
 
 returns-2 : tie.Need-returns-2
-returns-2 c = let p = c .before .before .before .before .before .before .before .pre in acted (p .0) (p .1) Lean (c .before .before .before .before .enum-told2 .given .1) (c .before .before .rotate .ensures)
+returns-2 c =
+    let b4 = c .before .before .before .before in
+    let b7 = b4 .before .before .before in
+    let p = b7 .pre in
+    acted (p .0) (p .1) Lean (b4 .enum-told2 .given .1) (c .before .before .rotate .ensures)
 
 same-length-3 : tie.Need-same-length-3
 same-length-3 c = search needs
 
 returns-3 : tie.Need-returns-3
-returns-3 c = let p = c .before .before .before .before .before .before .before .pre in acted (p .0) (p .1) Even (c .before .before .before .before .enum-told3 .given .1) (c .before .before .rotate2 .ensures)
+returns-3 c =
+    let b4 = c .before .before .before .before in
+    let b7 = b4 .before .before .before in
+    let p = b7 .pre in
+    acted (p .0) (p .1) Even (b4 .enum-told3 .given .1) (c .before .before .rotate2 .ensures)
 
 same-length-4 : tie.Need-same-length-4
 same-length-4 c = search needs
 
 returns-4 : tie.Need-returns-4
-returns-4 c = let p = c .before .before .before .before .before .before .before .pre in acted (p .0) (p .1) Double (c .before .before .before .before .enum-told4 .given .1) (c .before .before .rotate-twice .ensures)
+returns-4 c =
+    let b4 = c .before .before .before .before in
+    let b7 = b4 .before .before .before in
+    let p = b7 .pre in
+    acted (p .0) (p .1) Double (b4 .enum-told4 .given .1) (c .before .before .rotate-twice .ensures)
 
 pub act-spec : {M : Type 1} → statement M
 act-spec =
     tie.close
-    (tie.spec
-    enum-told
-    propagate-requires
-    enum-told-2
-    rotate-requires
-    enum-told-3
-    rotate-requires-2
-    enum-told-4
-    rotate-twice-requires
-    same-length
-    returns
-    same-length-2
-    returns-2
-    same-length-3
-    returns-3
-    same-length-4
-    returns-4)
+    (tie.spec enum-told propagate-requires enum-told-2 rotate-requires enum-told-3 rotate-requires-2 enum-told-4
+    rotate-twice-requires same-length returns same-length-2 returns-2 same-length-3 returns-3 same-length-4 returns-4)

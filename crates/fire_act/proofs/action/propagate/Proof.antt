@@ -12,15 +12,23 @@ localh-requires : tie.Need-localh-requires
 localh-requires c κs = search needs
 
 put-height-requires : tie.Need-put-height-requires
-put-height-requires c κs = let p = c .before .before .before .before .pre in
-    (record { sized = p .0 .sized; first = p .0 .nodes .v-first; most = p .0 .nodes .v-most }, simp (c .localh .ensures, c .before .seen .ensures) (p .1))
+put-height-requires c κs = let p = c .before .before .before .before .pre in (
+  record { sized = p .0 .sized; first = p .0 .nodes .v-first; most = p .0 .nodes .v-most },
+  simp
+      (c .localh .ensures, c .before .seen .ensures) (p .1),
+)
 
 same-length : tie.Need-same-length
 same-length c = search needs
 
 returns : tie.Need-returns
-returns c = let a = c .before .before .before .before .before .before .before .args in
-    propagate-written (now (a .t)) (a .c) (a .n) (a .near) (c .before .before .before .before .seen .ensures) (c .before .before .before .localh .ensures) (c .before .before .put-height .ensures)
+returns c =
+    let b3 = c .before .before .before in
+    let b4 = b3 .before in
+    let b7 = b4 .before .before .before in
+    let a = b7 .args in
+    propagate-written (now (a .t)) (a .c) (a .n) (a .near) (b4 .seen .ensures) (b3 .localh .ensures)
+    (c .before .before .put-height .ensures)
 
 pub propagate-spec : {M : Type 1} → statement M
 propagate-spec =

@@ -15,8 +15,12 @@ same-length : tie.Need-same-length
 same-length c = search needs
 
 returns : tie.Need-returns
-returns c = let a = c .before .before .before .before .before .before .before .before .before .args in
-    rotate-written (now (a .t)) (a .c) (a .n) (a .near) (c .before .before .before .before .before .before .rotate-links .ensures) (c .before .before .rotate-heights .ensures)
+returns c =
+    let b6 = c .before .before .before .before .before .before in
+    let b9 = b6 .before .before .before in
+    let a = b9 .args in
+    rotate-written (now (a .t)) (a .c) (a .n) (a .near) (b6 .rotate-links .ensures)
+    (c .before .before .rotate-heights .ensures)
 
 pub rotate-spec : {M : Type 1} → statement M
 rotate-spec =

@@ -22,26 +22,35 @@ over-requires c κs = search needs
 
 put-height-requires : tie.Need-put-height-requires
 put-height-requires c κs = let p = c .before .before .before .before .before .before .before .before .before .before .pre in (
-  record { sized = c .before .before .before .before .put-register .ensures .sized; first = p .0 .nodes .u-first; most = p .0 .nodes .u-most },
-  simp (c .over .ensures, c .before .before .before .before .before .before .seen2 .ensures, c .before .before .before .before .before .before .before .seen .ensures) (p .1),
+  record {
+    sized = c .before .before .before .before .put-register .ensures .sized;
+    first = p .0 .nodes .u-first;
+    most = p .0 .nodes .u-most;
+  },
+  simp (
+    c .over .ensures,
+    c .before .before .before .before .before .before .seen2 .ensures,
+    c .before .before .before .before .before .before .before .seen .ensures,
+  ) (p .1),
 )
 
 same-length : tie.Need-same-length
 same-length c = search needs
 
 returns : tie.Need-returns
-returns c = let a = c .before .before .before .before .before .before .before .before .before .before .before .before .before .args in
-    heights-written (now (a .t)) (a .c) (a .n) (a .near) (c .before .before .before .before .before .before .before .before .before .before .before .other .ensures) (c .before .before .before .before .before .before .before .before .before .before .seen .ensures) (c .before .before .before .before .before .before .before .before .before .seen2 .ensures) (c .before .before .before .over .ensures) (c .before .before .before .before .before .before .before .put-register .ensures) (c .before .before .put-height .ensures)
+returns c =
+    let b3 = c .before .before .before in
+    let b7 = b3 .before .before .before .before in
+    let b9 = b7 .before .before in
+    let b10 = b9 .before in
+    let b11 = b10 .before in
+    let b13 = b11 .before .before in
+    let a = b13 .args in
+    heights-written (now (a .t)) (a .c) (a .n) (a .near) (b11 .other .ensures) (b10 .seen .ensures)
+    (b9 .seen2 .ensures) (b3 .over .ensures) (b7 .put-register .ensures) (c .before .before .put-height .ensures)
 
 pub rotate-heights-spec : {M : Type 1} → statement M
 rotate-heights-spec =
     tie.close
-    (tie.spec
-    other-requires
-    seen-requires
-    seen-requires-2
-    put-register-requires
-    over-requires
-    put-height-requires
-    same-length
-    returns)
+    (tie.spec other-requires seen-requires seen-requires-2 put-register-requires over-requires put-height-requires
+    same-length returns)

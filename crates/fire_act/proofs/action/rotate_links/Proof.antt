@@ -24,17 +24,18 @@ same-length : tie.Need-same-length
 same-length c = search needs
 
 returns : tie.Need-returns
-returns c = let a = c .before .before .before .before .before .before .before .before .before .before .before .before .before .before .before .before .args in
-    links-written (now (a .t)) (a .c) (a .n) (a .near) (c .before .before .before .before .before .before .before .before .before .before .before .before .before .other .ensures) (c .before .before .before .son-word .ensures) (c .before .before .before .before .before .before .before .before .before .before .before .put-top .ensures) (c .before .before .before .before .before .before .before .put-son .ensures) (c .before .before .put-branch .ensures)
+returns c =
+    let b3 = c .before .before .before in
+    let b7 = b3 .before .before .before .before in
+    let b11 = b7 .before .before .before .before in
+    let b13 = b11 .before .before in
+    let b16 = b13 .before .before .before in
+    let a = b16 .args in
+    links-written (now (a .t)) (a .c) (a .n) (a .near) (b13 .other .ensures) (b3 .son-word .ensures)
+    (b11 .put-top .ensures) (b7 .put-son .ensures) (c .before .before .put-branch .ensures)
 
 pub rotate-links-spec : {M : Type 1} → statement M
 rotate-links-spec =
     tie.close
-    (tie.spec
-    other-requires
-    put-top-requires
-    put-son-requires
-    son-word-requires
-    put-branch-requires
-    same-length
+    (tie.spec other-requires put-top-requires put-son-requires son-word-requires put-branch-requires same-length
     returns)

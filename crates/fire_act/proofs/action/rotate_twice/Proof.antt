@@ -21,16 +21,16 @@ same-length : tie.Need-same-length
 same-length c = search needs
 
 returns : tie.Need-returns
-returns c = let a = c .before .before .before .before .before .before .before .before .before .before .before .before .before .before .before .before .before .args in
-    all-written (now (a .t)) (a .c) (a .n) (a .near) (c .before .before .before .before .before .before .before .before .before .before .before .before .before .before .twice-top .ensures) (c .before .before .before .before .before .before .before .before .before .before .twice-sons .ensures) (c .before .before .before .before .before .before .twice-copied .ensures) (c .before .before .twice-heights .ensures)
+returns c =
+    let b6 = c .before .before .before .before .before .before in
+    let b10 = b6 .before .before .before .before in
+    let b14 = b10 .before .before .before .before in
+    let b17 = b14 .before .before .before in
+    let a = b17 .args in
+    all-written (now (a .t)) (a .c) (a .n) (a .near) (b14 .twice-top .ensures) (b10 .twice-sons .ensures)
+    (b6 .twice-copied .ensures) (c .before .before .twice-heights .ensures)
 
 pub rotate-twice-spec : {M : Type 1} → statement M
 rotate-twice-spec =
     tie.close
-    (tie.spec
-    twice-top-requires
-    twice-sons-requires
-    twice-copied-requires
-    twice-heights-requires
-    same-length
-    returns)
+    (tie.spec twice-top-requires twice-sons-requires twice-copied-requires twice-heights-requires same-length returns)

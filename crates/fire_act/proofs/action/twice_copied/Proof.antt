@@ -21,16 +21,16 @@ same-length : tie.Need-same-length
 same-length c = search needs
 
 returns : tie.Need-returns
-returns c = let a = c .before .before .before .before .before .before .before .before .before .before .before .args in
-    copied-written (now (a .t)) (a .c) (a .n) (a .near) (c .before .before .before .before .before .before .before .other .ensures) (c .before .before .before .before .before .before .before .before .before .seen .ensures) (c .before .before .before .before .before .before .put-register .ensures) (c .before .before .put-register2 .ensures)
+returns c =
+    let b6 = c .before .before .before .before .before .before in
+    let b7 = b6 .before in
+    let b9 = b7 .before .before in
+    let b11 = b9 .before .before in
+    let a = b11 .args in
+    copied-written (now (a .t)) (a .c) (a .n) (a .near) (b7 .other .ensures) (b9 .seen .ensures)
+    (b6 .put-register .ensures) (c .before .before .put-register2 .ensures)
 
 pub twice-copied-spec : {M : Type 1} → statement M
 twice-copied-spec =
     tie.close
-    (tie.spec
-    seen-requires
-    other-requires
-    put-register-requires
-    put-register-requires-2
-    same-length
-    returns)
+    (tie.spec seen-requires other-requires put-register-requires put-register-requires-2 same-length returns)

@@ -24,17 +24,18 @@ same-length : tie.Need-same-length
 same-length c = search needs
 
 returns : tie.Need-returns
-returns c = let a = c .before .before .before .before .before .before .before .before .before .before .before .before .args in
-    sons-written (now (a .t)) (a .c) (a .n) (a .near) (c .before .before .before .before .before .before .before .before .before .before .other .ensures) (c .before .before .before .before .before .before .before .before .son-word .ensures) (c .before .before .before .son-word2 .ensures) (c .before .before .before .before .before .before .before .put-branch .ensures) (c .before .before .put-branch2 .ensures)
+returns c =
+    let b3 = c .before .before .before in
+    let b7 = b3 .before .before .before .before in
+    let b8 = b7 .before in
+    let b10 = b8 .before .before in
+    let b12 = b10 .before .before in
+    let a = b12 .args in
+    sons-written (now (a .t)) (a .c) (a .n) (a .near) (b10 .other .ensures) (b8 .son-word .ensures)
+    (b3 .son-word2 .ensures) (b7 .put-branch .ensures) (c .before .before .put-branch2 .ensures)
 
 pub twice-sons-spec : {M : Type 1} → statement M
 twice-sons-spec =
     tie.close
-    (tie.spec
-    other-requires
-    son-word-requires
-    put-branch-requires
-    son-word-requires-2
-    put-branch-requires-2
-    same-length
-    returns)
+    (tie.spec other-requires son-word-requires put-branch-requires son-word-requires-2 put-branch-requires-2
+    same-length returns)

@@ -21,16 +21,16 @@ same-length : tie.Need-same-length
 same-length c = search needs
 
 returns : tie.Need-returns
-returns c = let a = c .before .before .before .before .before .before .before .before .before .before .before .before .before .before .before .args in
-    top-written (now (a .t)) (a .c) (a .n) (a .near) (c .before .before .before .other .ensures) (c .before .before .before .before .before .before .before .before .before .before .before .put-top .ensures) (c .before .before .before .before .before .before .before .put-son .ensures) (c .before .before .put-son2 .ensures)
+returns c =
+    let b3 = c .before .before .before in
+    let b7 = b3 .before .before .before .before in
+    let b11 = b7 .before .before .before .before in
+    let b15 = b11 .before .before .before .before in
+    let a = b15 .args in
+    top-written (now (a .t)) (a .c) (a .n) (a .near) (b3 .other .ensures) (b11 .put-top .ensures)
+    (b7 .put-son .ensures) (c .before .before .put-son2 .ensures)
 
 pub twice-top-spec : {M : Type 1} → statement M
 twice-top-spec =
     tie.close
-    (tie.spec
-    put-top-requires
-    put-son-requires
-    other-requires
-    put-son-requires-2
-    same-length
-    returns)
+    (tie.spec put-top-requires put-son-requires other-requires put-son-requires-2 same-length returns)

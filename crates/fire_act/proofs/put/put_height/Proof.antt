@@ -11,7 +11,9 @@ cast-put-register : tie.Need-cast-put-register
 cast-put-register c = search needs
 
 put-register-requires : tie.Need-put-register-requires
-put-register-requires c κs = let p = c .before .before .pre .0 in (p .first, omega arith, register-lt _ _ _ (c .before .before .args .side) (p .sized) (p .first) (p .most))
+put-register-requires c κs =
+    let p = c .before .before .pre .0 in
+    (p .first, omega arith, register-lt _ _ _ (c .before .before .args .side) (p .sized) (p .first) (p .most))
 
 same-length : tie.Need-same-length
 same-length c = search needs

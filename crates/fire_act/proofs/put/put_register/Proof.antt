@@ -8,7 +8,9 @@ use Rattle.fire_act.proofs.put.put_register.Statement.{statement}
 use Rattle.fire_act.proofs.put.put_register.Tie as tie
 
 put-register-requires : tie.Need-put-register-requires
-put-register-requires c κs = let p = c .before .before .pre in (p .first, omega arith, register-lt _ _ _ (c .before .before .args .side) (p .sized) (p .first) (p .most))
+put-register-requires c κs =
+    let p = c .before .before .pre in
+    (p .first, omega arith, register-lt _ _ _ (c .before .before .args .side) (p .sized) (p .first) (p .most))
 
 same-length : tie.Need-same-length
 same-length c = search needs

@@ -18,7 +18,11 @@ enum-known-s : tie.Need-enum-known-s
 enum-known-s c = search needs
 
 header-ok-requires : tie.Need-header-ok-requires
-header-ok-requires c κs = let s = slots-room (now (c .before .before .before .before .before .before .args .t)) _ (sym (c .before .before .before .before .capacity .ensures) ∙ c .before .before .s .given .1) in omega arith
+header-ok-requires c κs =
+    let b4 = c .before .before .before .before in
+    let b6 = b4 .before .before in
+    let s = slots-room (now (b6 .args .t)) _ (sym (b4 .capacity .ensures) ∙ c .before .before .s .given .1) in
+    omega arith
 
 returns : tie.Need-returns
 unfolding gate
@@ -26,11 +30,31 @@ returns c = simp (sym (c .before .before .capacity .ensures), c .enum-told .give
 
 returns-2 : tie.Need-returns-2
 unfolding gate
-returns-2 c = simp (sym (c .before .before .before .before .before .before .capacity .ensures), c .before .before .before .before .s .given .1, c .before .before .if1 .taken, sym (c .before .header-ok .ensures), c .if2 .taken)
+returns-2 c =
+    let b4 = c .before .before .before .before in
+    let b6 = b4 .before .before in
+    simp (
+      sym (b6 .capacity .ensures),
+      b4 .s .given .1,
+      c .before .before .if1 .taken,
+      sym
+          (c .before .header-ok .ensures),
+      c .if2 .taken,
+    )
 
 returns-3 : tie.Need-returns-3
 unfolding gate
-returns-3 c = simp (sym (c .before .before .before .before .before .before .capacity .ensures), c .before .before .before .before .s .given .1, c .before .before .if1 .taken, sym (c .before .header-ok .ensures), c .if2 .left)
+returns-3 c =
+    let b4 = c .before .before .before .before in
+    let b6 = b4 .before .before in
+    simp (
+      sym (b6 .capacity .ensures),
+      b4 .s .given .1,
+      c .before .before .if1 .taken,
+      sym
+          (c .before .header-ok .ensures),
+      c .if2 .left,
+    )
 
 returns-4 : tie.Need-returns-4
 unfolding gate
@@ -39,12 +63,4 @@ returns-4 c = simp (sym (c .before .before .before .before .capacity .ensures), 
 pub enter-spec : {M : Type 1} → statement M
 enter-spec =
     tie.close
-    (tie.spec
-    capacity-requires
-    enum-told
-    enum-known-s
-    header-ok-requires
-    returns
-    returns-2
-    returns-3
-    returns-4)
+    (tie.spec capacity-requires enum-told enum-known-s header-ok-requires returns returns-2 returns-3 returns-4)

@@ -29,11 +29,4 @@ returns c =
 pub next-change-spec : {M : Type 1} → statement M
 next-change-spec =
     tie.close
-    (tie.spec
-    add-change
-    put-change-requires
-    long-requires
-    size-requires
-    accept-requires
-    same-length
-    returns)
+    (tie.spec add-change put-change-requires long-requires size-requires accept-requires same-length returns)

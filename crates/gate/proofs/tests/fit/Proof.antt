@@ -12,10 +12,21 @@ links-ok-requires : tie.Need-links-ok-requires
 links-ok-requires c κs = search needs
 
 returns : tie.Need-returns
-returns c = let a = c .before .before .before .args in rw (sym (fit-together (a .c) (a .s)), sym (c .before .before .contents-ok .ensures), c .before .if1 .taken, sym (c .links-ok .ensures)) refl
+returns c =
+    let b3 = c .before .before .before in
+    let a = b3 .args in
+    rw (
+      sym (fit-together (a .c) (a .s)),
+      sym (c .before .before .contents-ok .ensures),
+      c .before .if1 .taken,
+      sym
+          (c .links-ok .ensures),
+    ) refl
 
 returns-2 : tie.Need-returns-2
-returns-2 c = let a = c .before .before .args in rw (sym (fit-together (a .c) (a .s)), sym (c .before .contents-ok .ensures), c .if1 .left) refl
+returns-2 c =
+    let a = c .before .before .args in
+    rw (sym (fit-together (a .c) (a .s)), sym (c .before .contents-ok .ensures), c .if1 .left) refl
 
 pub fit-spec : {M : Type 1} → statement M
 fit-spec = tie.close (tie.spec contents-ok-requires links-ok-requires returns returns-2)

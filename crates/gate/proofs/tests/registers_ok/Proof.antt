@@ -35,12 +35,4 @@ returns c =
 pub registers-ok-spec : {M : Type 1} → statement M
 registers-ok-spec =
     tie.close
-    (tie.spec
-    cast-left
-    burden-requires
-    add-left
-    cast-right
-    burden-requires-2
-    add-right
-    cast-result
-    returns)
+    (tie.spec cast-left burden-requires add-left cast-right burden-requires-2 add-right cast-result returns)

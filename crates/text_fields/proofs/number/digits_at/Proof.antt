@@ -54,18 +54,5 @@ returns-4 c = reading-high (c .before .before .before .before .loop .inv) (omega
 pub digits-at-spec : {M : Type 1} → statement M
 digits-at-spec =
     tie.close
-    (tie.spec
-    Inv-loop
-    μ-loop
-    loop-holds
-    shared-slice-read-c
-    mul-v
-    cast-v
-    add-v
-    returns
-    add-i
-    loop-less
-    loop-again
-    returns-2
-    returns-3
-    returns-4)
+    (tie.spec Inv-loop μ-loop loop-holds shared-slice-read-c mul-v cast-v add-v returns add-i loop-less loop-again
+    returns-2 returns-3 returns-4)

@@ -9,7 +9,8 @@ use Rattle.text_fields.proofs.number.number_at.Statement.{statement}
 use Rattle.text_fields.proofs.number.number_at.Tie as tie
 
 -- what the arm with digits knows
-known : (c : tie.After-value) → Known (c .before .before .before .before .args .s .now) (c .before .before .before .before .args .at) (c .value .given .0 .0) (c .value .given .0 .1 .0)
+known : (c : tie.After-value) → Known (c .before .before .before .before .args .s .now)
+    (c .before .before .before .before .args .at) (c .value .given .0 .0) (c .value .given .0 .1 .0)
 known c = digits-known _ _ _ _ (sym (c .value .given .1) ∙ c .before .before .digits-at .ensures)
 
 digits-at-requires : tie.Need-digits-at-requires
@@ -48,14 +49,5 @@ returns-4 c = number-over _ _ (digits-too _ _ (sym (c .enum-told .given .1) ∙ 
 pub number-at-spec : {M : Type 1} → statement M
 number-at-spec =
     tie.close
-    (tie.spec
-    digits-at-requires
-    enum-known-value
-    returns
-    shared-slice-read-if2
-    add-if3
-    returns-2
-    cast-t12
-    enum-told
-    returns-3
-    returns-4)
+    (tie.spec digits-at-requires enum-known-value returns shared-slice-read-if2 add-if3 returns-2 cast-t12 enum-told
+    returns-3 returns-4)

@@ -26,7 +26,10 @@ enum-told-2 c = search needs
 
 returns-2 : tie.Need-returns-2
 unfolding endThen numberThen wordThen
-returns-2 c = simp (c .before .before .before .before .before .seen .given .1, sym (c .before .before .before .number-at .ensures), c .before .value .given .1)
+returns-2 c =
+    let b3 = c .before .before .before in
+    let b5 = b3 .before .before in
+    simp (b5 .seen .given .1, sym (b3 .number-at .ensures), c .before .value .given .1)
 
 returns-3 : tie.Need-returns-3
 unfolding endThen numberThen wordThen
@@ -35,12 +38,4 @@ returns-3 c = simp (c .before .before .before .before .seen .given .1, sym (c .b
 pub number-spec : {M : Type 1} → statement M
 number-spec =
     tie.close
-    (tie.spec
-    enum-known-seen
-    enum-told
-    returns
-    number-at-requires
-    enum-known-value
-    enum-told-2
-    returns-2
-    returns-3)
+    (tie.spec enum-known-seen enum-told returns number-at-requires enum-known-value enum-told-2 returns-2 returns-3)

@@ -62,20 +62,7 @@ returns c =
 pub one-forms-spec : {M : Type 1} → statement M
 one-forms-spec =
     tie.close
-    (tie.spec
-    slice-aggregate-one-form
-    slice-aggregate-one-form-2
-    one-form-requires
-    slice-aggregate-one-form-3
-    slice-aggregate-one-form-4
-    one-form-requires-2
-    slice-aggregate-one-form-5
-    slice-aggregate-one-form-6
-    one-form-requires-3
-    slice-aggregate-one-form-7
-    slice-aggregate-one-form-8
-    one-form-requires-4
-    slice-aggregate-one-form-9
-    slice-aggregate-one-form-10
-    one-form-requires-5
-    returns)
+    (tie.spec slice-aggregate-one-form slice-aggregate-one-form-2 one-form-requires slice-aggregate-one-form-3
+    slice-aggregate-one-form-4 one-form-requires-2 slice-aggregate-one-form-5 slice-aggregate-one-form-6
+    one-form-requires-3 slice-aggregate-one-form-7 slice-aggregate-one-form-8 one-form-requires-4
+    slice-aggregate-one-form-9 slice-aggregate-one-form-10 one-form-requires-5 returns)

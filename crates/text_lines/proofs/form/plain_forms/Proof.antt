@@ -26,9 +26,5 @@ returns c =
 pub plain-forms-spec : {M : Type 1} → statement M
 plain-forms-spec =
     tie.close
-    (tie.spec
-    slice-aggregate-plain-form
-    plain-form-requires
-    slice-aggregate-plain-form-2
-    plain-form-requires-2
+    (tie.spec slice-aggregate-plain-form plain-form-requires slice-aggregate-plain-form-2 plain-form-requires-2
     returns)

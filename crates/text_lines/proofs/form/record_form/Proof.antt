@@ -40,17 +40,13 @@ made-requires c κs = search needs
 
 -- src/form.rt:59:1
 returns : tie.Need-returns
-returns c = form-tried _ _ _ (c .before .before .before .name .ensures) (c .before .before .three .ensures) (c .before .end .ensures) (c .made .ensures)
+returns c =
+    let b3 = c .before .before .before in
+    form-tried _ _ _ (b3 .name .ensures) (c .before .before .three .ensures) (c .before .end .ensures)
+    (c .made .ensures)
 
 pub record-form-spec : {M : Type 1} → statement M
 record-form-spec =
     tie.close
-    (tie.spec
-    slice-aggregate-three
-    slice-aggregate-three-2
-    slice-aggregate-three-3
-    name-requires
-    three-requires
-    end-requires
-    made-requires
-    returns)
+    (tie.spec slice-aggregate-three slice-aggregate-three-2 slice-aggregate-three-3 name-requires three-requires
+    end-requires made-requires returns)

@@ -64,23 +64,16 @@ record-form-requires-2 c κs = search needs
 returns : tie.Need-returns
 unfolding formOf
 returns c =
-    let fire = form-tried _ _ _ (c .before .before .before .before .before .before .before .before .before .before .name .ensures) (c .before .before .before .before .before .before .three .ensures) (c .before .before .before .before .before .end .ensures) (c .before .before .before .before .made .ensures) in
+    let b4 = c .before .before .before .before in
+    let b5 = b4 .before in
+    let b6 = b5 .before in
+    let b10 = b6 .before .before .before .before in
+    let fire = form-tried _ _ _ (b10 .name .ensures) (b6 .three .ensures) (b5 .end .ensures) (b4 .made .ensures) in
     tried-then _ _ _ _ (c .record-form2 .ensures) (tried-then _ _ _ _ (c .before .before .record-form .ensures) fire)
 
 pub three-forms-spec : {M : Type 1} → statement M
 three-forms-spec =
     tie.close
-    (tie.spec
-    slice-aggregate-name
-    name-requires
-    slice-aggregate-three
-    slice-aggregate-three-2
-    slice-aggregate-three-3
-    three-requires
-    end-requires
-    made-requires
-    slice-aggregate-record-form
-    record-form-requires
-    slice-aggregate-record-form-2
-    record-form-requires-2
-    returns)
+    (tie.spec slice-aggregate-name name-requires slice-aggregate-three slice-aggregate-three-2 slice-aggregate-three-3
+    three-requires end-requires made-requires slice-aggregate-record-form record-form-requires
+    slice-aggregate-record-form-2 record-form-requires-2 returns)

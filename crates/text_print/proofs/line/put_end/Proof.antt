@@ -41,25 +41,18 @@ same-length c = search needs
 returns : tie.Need-returns
 unfolding recordEnd
 returns c =
-    field-then _ _ _ _ _ (c .before .before .before .before .before .before .before .before .before .before .before .before .before .before .before .before .before .before .before .before .before .before .put-field .ensures)
-    (field-then _ _ _ _ _ (c .before .before .before .before .before .before .before .before .before .before .before .before .before .before .before .before .before .put-field2 .ensures)
-    (field-then _ _ _ _ _ (c .before .before .before .before .before .before .before .before .before .before .before .before .put-field3 .ensures)
-    (field-then _ _ _ _ _ (c .before .before .before .before .before .before .before .put-field4 .ensures)
-    (last-text (c .before .before .put-text .ensures)))))
+    let b7 = c .before .before .before .before .before .before .before in
+    let b12 = b7 .before .before .before .before .before in
+    let b17 = b12 .before .before .before .before .before in
+    let b22 = b17 .before .before .before .before .before in
+    field-then _ _ _ _ _ (b22 .put-field .ensures)
+    (field-then _ _ _ _ _ (b17 .put-field2 .ensures)
+    (field-then _ _ _ _ _ (b12 .put-field3 .ensures)
+    (field-then _ _ _ _ _ (b7 .put-field4 .ensures) (last-text (c .before .before .put-text .ensures)))))
 
 pub put-end-spec : {M : Type 1} → statement M
 put-end-spec =
     tie.close
-    (tie.spec
-    slice-aggregate-put-field
-    put-field-requires
-    slice-aggregate-put-field-2
-    put-field-requires-2
-    slice-aggregate-put-field-3
-    put-field-requires-3
-    slice-aggregate-put-field-4
-    put-field-requires-4
-    slice-aggregate-put-text
-    put-text-requires
-    same-length
-    returns)
+    (tie.spec slice-aggregate-put-field put-field-requires slice-aggregate-put-field-2 put-field-requires-2
+    slice-aggregate-put-field-3 put-field-requires-3 slice-aggregate-put-field-4 put-field-requires-4
+    slice-aggregate-put-text put-text-requires same-length returns)

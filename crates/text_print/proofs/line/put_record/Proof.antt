@@ -14,7 +14,9 @@ same-length : tie.Need-same-length
 same-length c = search needs
 
 returns : tie.Need-returns
-returns c = rw (record-parts _ _) (both (c .before .before .before .before .before .before .put-start .ensures) (c .before .before .put-end .ensures))
+returns c =
+    let b6 = c .before .before .before .before .before .before in
+    rw (record-parts _ _) (both (b6 .put-start .ensures) (c .before .before .put-end .ensures))
 
 pub put-record-spec : {M : Type 1} → statement M
 put-record-spec = tie.close (tie.spec put-start-requires put-end-requires same-length returns)

@@ -35,24 +35,17 @@ same-length c = search needs
 returns : tie.Need-returns
 unfolding recordStart
 returns c =
-    no-more _
-    (field-then _ _ _ _ _ (c .before .before .before .before .before .before .before .before .before .before .before .before .before .before .before .before .before .put-field .ensures)
-    (field-then _ _ _ _ _ (c .before .before .before .before .before .before .before .before .before .before .before .before .put-field2 .ensures)
-    (field-then _ _ _ _ _ (c .before .before .before .before .before .before .before .put-field3 .ensures)
-    (field-then _ _ _ _ _ (c .before .before .put-field4 .ensures)
-    (no-text _ _)))))
+    let b7 = c .before .before .before .before .before .before .before in
+    let b12 = b7 .before .before .before .before .before in
+    let b17 = b12 .before .before .before .before .before in
+    no-more _ (field-then _ _ _ _ _ (b17 .put-field .ensures)
+    (field-then _ _ _ _ _ (b12 .put-field2 .ensures)
+    (field-then _ _ _ _ _ (b7 .put-field3 .ensures)
+    (field-then _ _ _ _ _ (c .before .before .put-field4 .ensures) (no-text _ _)))))
 
 pub put-start-spec : {M : Type 1} → statement M
 put-start-spec =
     tie.close
-    (tie.spec
-    slice-aggregate-put-field
-    put-field-requires
-    slice-aggregate-put-field-2
-    put-field-requires-2
-    slice-aggregate-put-field-3
-    put-field-requires-3
-    slice-aggregate-put-field-4
-    put-field-requires-4
-    same-length
+    (tie.spec slice-aggregate-put-field put-field-requires slice-aggregate-put-field-2 put-field-requires-2
+    slice-aggregate-put-field-3 put-field-requires-3 slice-aggregate-put-field-4 put-field-requires-4 same-length
     returns)

@@ -45,7 +45,12 @@ put-number-slice-write-out : (t : ℕ) → put-number-lts.Need-slice-write-out (
   put-number-below t,
   put-number.Post,
 ) (put-number-at t) put-number.Post
-put-number-slice-write-out t c = omega (arith, c .before .before .pre .1, ap length (decimal-small (c .before .before .args .n) (c .if1 .taken)))
+put-number-slice-write-out t c = omega (
+  arith,
+  c .before .before .pre .1,
+  ap length
+      (decimal-small (c .before .before .args .n) (c .if1 .taken)),
+)
 
 put-number-add-result : (t : ℕ) → put-number-lts.Need-add-result (
   put-number-below t,

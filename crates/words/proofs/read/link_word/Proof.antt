@@ -41,14 +41,4 @@ returns-3 c = simp (ne-eqb _ _ (c .before .before .if1 .left), c .enum-told2 .gi
 pub link-word-spec : {M : Type 1} → statement M
 link-word-spec =
     tie.close
-    (tie.spec
-    returns
-    sub-b
-    mul-b
-    add-b
-    enum-told
-    add-result
-    enum-told-2
-    add-result-2
-    returns-2
-    returns-3)
+    (tie.spec returns sub-b mul-b add-b enum-told add-result enum-told-2 add-result-2 returns-2 returns-3)

@@ -89,31 +89,6 @@ returns c = search needs
 pub slot-at-spec : {M : Type 1} → statement M
 slot-at-spec =
     tie.close
-    (tie.spec
-    sub-b
-    mul-b
-    add-b
-    mul-t4
-    shared-slice-read-t7
-    add-t5
-    mul-t8
-    shared-slice-read-t10
-    add-t11
-    mul-t12
-    shared-slice-read-t14
-    add-t15
-    mul-t16
-    shared-slice-read-t18
-    add-t19
-    mul-t20
-    shared-slice-read-t22
-    add-t23
-    mul-t24
-    shared-slice-read-t26
-    add-t27
-    mul-t28
-    shared-slice-read-t30
-    add-t31
-    mul-t32
-    shared-slice-read-t34
-    returns)
+    (tie.spec sub-b mul-b add-b mul-t4 shared-slice-read-t7 add-t5 mul-t8 shared-slice-read-t10 add-t11 mul-t12
+    shared-slice-read-t14 add-t15 mul-t16 shared-slice-read-t18 add-t19 mul-t20 shared-slice-read-t22 add-t23 mul-t24
+    shared-slice-read-t26 add-t27 mul-t28 shared-slice-read-t30 add-t31 mul-t32 shared-slice-read-t34 returns)

@@ -47,15 +47,5 @@ returns-2 c = place-end (c .before .before .pre) (c .before .loop .inv) (c .loop
 pub free-slot-spec : {M : Type 1} → statement M
 free-slot-spec =
     tie.close
-    (tie.spec
-    Inv-loop
-    μ-loop
-    loop-holds
-    mul-if1
-    shared-slice-read-if1
-    add-result
-    returns
-    add-b
-    loop-less
-    loop-again
+    (tie.spec Inv-loop μ-loop loop-holds mul-if1 shared-slice-read-if1 add-result returns add-b loop-less loop-again
     returns-2)

@@ -94,32 +94,6 @@ returns c = search needs
 pub put-slot-spec : {M : Type 1} → statement M
 put-slot-spec =
     tie.close
-    (tie.spec
-    sub-b
-    mul-b
-    add-b
-    mul-t
-    slice-write-t
-    add-t
-    mul-t-2
-    slice-write-t-2
-    add-t-2
-    mul-t-3
-    slice-write-t-3
-    add-t-3
-    mul-t-4
-    slice-write-t-4
-    add-t-4
-    mul-t-5
-    slice-write-t-5
-    add-t-5
-    mul-t-6
-    slice-write-t-6
-    add-t-6
-    mul-t-7
-    slice-write-t-7
-    add-t-7
-    mul-t-8
-    slice-write-t-8
-    same-length
-    returns)
+    (tie.spec sub-b mul-b add-b mul-t slice-write-t add-t mul-t-2 slice-write-t-2 add-t-2 mul-t-3 slice-write-t-3
+    add-t-3 mul-t-4 slice-write-t-4 add-t-4 mul-t-5 slice-write-t-5 add-t-5 mul-t-6 slice-write-t-6 add-t-6 mul-t-7
+    slice-write-t-7 add-t-7 mul-t-8 slice-write-t-8 same-length returns)

@@ -25,11 +25,17 @@ returns-2 c = simp (le-ltb _ _ (c .before .before .before .if1 .left), sym (c .b
 
 returns-3 : tie.Need-returns-3
 unfolding linkOf
-returns-3 c = simp (le-ltb _ _ (c .before .before .before .before .before .if1 .left), sym (c .before .before .before .before .of .ensures), c .before .before .on .given .1, c .if2 .taken)
+returns-3 c =
+    let b4 = c .before .before .before .before in
+    let b5 = b4 .before in
+    simp (le-ltb _ _ (b5 .if1 .left), sym (b4 .of .ensures), c .before .before .on .given .1, c .if2 .taken)
 
 returns-4 : tie.Need-returns-4
 unfolding linkOf
-returns-4 c = simp (le-ltb _ _ (c .before .before .before .before .before .if1 .left), sym (c .before .before .before .before .of .ensures), c .before .before .on .given .1, c .if2 .left)
+returns-4 c =
+    let b4 = c .before .before .before .before in
+    let b5 = b4 .before in
+    simp (le-ltb _ _ (b5 .if1 .left), sym (b4 .of .ensures), c .before .before .on .given .1, c .if2 .left)
 
 pub of-spec : {M : Type 1} → statement M
 of-spec =
