@@ -1,5 +1,5 @@
 -- One step down a hanging tree, for every walk of it; and the tree at the root. Assumes nothing.
-use Prim.Native.Nat.{ℕ, _+_, _-_, _≤_, _<_}
+use Prim.Native.Nat.{ℕ, suc, _+_, _-_, _≤_, _<_}
 use mathlib.Core.Path.{_≡_, refl, sym, ap, _∙_}
 use mathlib.Core.Bool.{true}
 use mathlib.Core.List.{List}
@@ -85,6 +85,12 @@ pub says-fork : {A : Type 0} {t : List ℕ} {more x : ℕ} {f : Fork} (g : Tree 
     → r ≡ g (node (batchAt t x) (f .slot .lefth) (f .slot .righth) (d .on-left .tree) (d .on-right .tree))
     → Says t x g r
 says-fork g d e c T p = e ∙ ap g (sym (d .whole c T p))
+
+-- what hangs at a fork are its slot and its two sides
+pub sizes : {t : List ℕ} {more x : ℕ} {f : Fork} (h : Hangs t more x) (d : Forked t more x f)
+    → size (h .tree) ≡ suc (size (d .on-left .tree) + size (d .on-right .tree))
+unfolding size
+sizes h d = ap size (d .whole (h .slots) (h .tree) (h .reached))
 
 -- the tree of a sound table hangs at its root, as the code reads it
 module _ {t : List ℕ} {c x : ℕ} (w : Whole t c) (ex : x ≡ word t rootWord) where

@@ -18,7 +18,8 @@ use Rattle.fork.specs.declared.Fork.{Fork}
 use Rattle.fork.specs.Hangs.{Hangs, Says}
 use Rattle.rank.specs.Ranks.{firstRank, rankIn, Seeks}
 use Rattle.fork.proofs.Down.{Forked, said-at, at-leaf, says-leaf, says-fork}
-use Rattle.rank.proofs.Pick.{after, order-node, order-size, pick-past, past-is}
+use Rattle.fork.proofs.Order.{order-node, order-size}
+use Rattle.rank.proofs.Pick.{after, pick-past, past-is}
 use Rattle.rank.proofs.Pick.{pick-left, pick-here, pick-after}
 
 -- what a number below the first rank says, and one from there on

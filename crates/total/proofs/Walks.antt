@@ -1,6 +1,6 @@
 -- What each sum is at a slot, from those of its two sides; and how large it can be. Assumes nothing.
-use Prim.Native.Nat.{ℕ, suc, _+_, _-_, _*_, _≤_}
-use mathlib.Core.Path.{_≡_, sym, ap, _∙_}
+use Prim.Native.Nat.{ℕ, _+_, _-_, _*_, _≤_}
+use mathlib.Core.Path.{_≡_, sym, _∙_}
 use mathlib.Core.Bool.{Bool, true, false, not, cond, _&&_}
 use mathlib.Core.List.{List}
 use native.Mathlib.Omega.{arith}
@@ -11,13 +11,13 @@ use Rattle.scope.specs.Numbers.{mostSlots}
 use Rattle.scope.specs.Table.{slotAt}
 use Rattle.scope.specs.Fit.{stateOk, piecesOk, fitSlot}
 use Rattle.scope.specs.Tree.{Tree, leaf, node, size, trueHeight, over}
-use Rattle.scope.specs.Sound.{Spells, batchAt}
+use Rattle.scope.specs.Sound.{Spells}
 use Rattle.scope.specs.Sums.{totalOf}
 use Rattle.scope.specs.declared.slot.Slot.{Slot}
 use Rattle.fork.specs.declared.Fork.{Fork}
 use Rattle.fork.specs.Hangs.{Says}
 use Rattle.total.specs.Adding.{Adding, countedOf, totalOn}
-use Rattle.fork.proofs.Down.{Forked, said-at, says-leaf, says-fork}
+use Rattle.fork.proofs.Down.{Forked, sizes, said-at, says-leaf, says-fork}
 
 pub height-most : (T : Tree) → trueHeight T ≤ size T
 unfolding trueHeight size
@@ -74,16 +74,8 @@ nothing-added t x sum K e c T p = omega arith ∙ says-leaf t x (totalOn sum K) 
 
 -- adding up the pieces at a slot and on its two sides
 module _ {t : List ℕ} {more x sum : ℕ} {f : Fork} (g : Adding t more x sum) (d : Forked t more x f) where
-  -- the tree that hangs is the slot over its two sides
-  here : g .hangs .tree ≡ node (batchAt t x) (f .slot .lefth) (f .slot .righth) (d .on-left .tree) (d .on-right .tree)
-  here = d .whole (g .hangs .slots) (g .hangs .tree) (g .hangs .reached)
-
-  sizes : size (g .hangs .tree) ≡ suc (size (d .on-left .tree) + size (d .on-right .tree))
-  unfolding size
-  sizes = ap size here ∙ omega arith
-
   pub left-room : Adding t (more - 1) (f .left) sum
-  left-room = record { hangs = d .on-left; room = omega (arith, g .room, sizes) }
+  left-room = record { hangs = d .on-left; room = omega (arith, g .room, sizes (g .hangs) d) }
 
   module _ (K : ℕ) {a : ℕ} (sa : Says t (f .left) (totalOn sum K) a) where
     module _ {own : ℕ} (eo : own ≡ countedOf K (f .slot .key) (f .slot .pieces)) where
@@ -95,7 +87,7 @@ module _ {t : List ℕ} {more x sum : ℕ} {f : Fork} (g : Adding t more x sum) 
             room = omega (
               arith,
               g .room,
-              sizes,
+              sizes (g .hangs) d,
               eo,
               said-at l (totalOn sum K) sa,
               total-most t (l .slots) K (f .left) (l .tree) (l .reached),
