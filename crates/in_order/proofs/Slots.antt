@@ -41,6 +41,14 @@ spelled-within t c x (node d a b l r) h p =
     rw (order-node d a b l r)
     (within-append c (slotsInOrder l) (d .slot ∷ slotsInOrder r) left (omega (arith, e, p .there), omega (arith, e), right))
 
+-- a list in order
+module _ {t : List ℕ} {c : ℕ} {list : List ℕ} {n : ℕ} (o : InOrder t c list n) where
+  pub listed-count : n ≡ length (slotsInOrder (treeIn t c))
+  listed-count = sym (length-take-le n list (o .within)) ∙ ap length (o .is)
+
+  pub listed-is : (i : ℕ) → i < n → getD list i 0 ≡ getD (slotsInOrder (treeIn t c)) i 0
+  listed-is i lt = sym (getD-take n list i 0 lt) ∙ ap (λ (l : List ℕ). getD l i 0) (o .is)
+
 module _ {t : List ℕ} {c : ℕ} (w : Whole t c) where
   slots-within : Within c (slotsInOrder (treeIn t c))
   slots-within =
@@ -52,17 +60,10 @@ module _ {t : List ℕ} {c : ℕ} (w : Whole t c) where
   slots-count = order-size (treeIn t c) ∙ ap size (tree-in t c (w .sound)) ∙ w .sound .count
 
   module _ {list : List ℕ} {n : ℕ} (o : InOrder t c list n) where
-    counts : n ≡ length (slotsInOrder (treeIn t c))
-    counts = sym (length-take-le n list (o .within)) ∙ ap length (o .is)
-
     pub listed-few : n ≤ c
-    listed-few = omega (arith, counts, slots-count, header-count c t (w .sound .header))
+    listed-few = omega (arith, listed-count o, slots-count, header-count c t (w .sound .header))
 
-    module _ (i : ℕ) (lt : i < n) where
-      pub listed-is : getD list i 0 ≡ getD (slotsInOrder (treeIn t c)) i 0
-      listed-is = sym (getD-take n list i 0 lt) ∙ ap (λ (l : List ℕ). getD l i 0) (o .is)
-
-      pub listed-slot : InTable t (getD list i 0)
-      listed-slot =
-          let k = within-at c (slotsInOrder (treeIn t c)) i slots-within (omega (arith, counts, lt)) in
-          in-table (getD list i 0) (w .sized) (omega (arith, listed-is)) (omega (arith, listed-is))
+    pub listed-slot : (i : ℕ) → i < n → InTable t (getD list i 0)
+    listed-slot i lt =
+        let k = within-at c (slotsInOrder (treeIn t c)) i slots-within (omega (arith, listed-count o, lt)) in
+        in-table (getD list i 0) (w .sized) (omega (arith, listed-is o i lt)) (omega (arith, listed-is o i lt))

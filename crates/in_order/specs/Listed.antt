@@ -3,7 +3,7 @@ use Prim.Native.Nat.{ℕ, _+_, _≤_}
 use mathlib.Core.Path.{_≡_}
 use mathlib.Core.List.{List, _++_}
 use lib.ListN.{length, take}
-use Rattle.scope.specs.Tree.{Tree, size}
+use Rattle.scope.specs.Tree.{size}
 use Rattle.scope.specs.Sound.{treeIn}
 use Rattle.scope.specs.Sums.{slotsInOrder}
 use Rattle.fork.specs.Hangs.{Hangs, Says}
