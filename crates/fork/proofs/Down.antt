@@ -60,7 +60,15 @@ module _ {t : List ℕ} {more x : ℕ} (h : Hangs t more x) (ne : x ≡ 0 → �
         on-right = below r (slotAt t x .right) (fit-right (h .slots) (slotAt t x) (p .fit) .0) (p .right) (omega arith);
         few = omega arith;
         whole = λ c T q. unique t c (h .slots) x T (node (batchAt t x) (slotAt t x .lefth) (slotAt t x .righth) l r) q
-            (record { there = p .there; fit = p .fit; holds = refl; lefth = refl; righth = refl; left = p .left; right = p .right });
+            (record {
+              there = p .there;
+              fit = p .fit;
+              holds = refl;
+              lefth = refl;
+              righth = refl;
+              left = p .left;
+              right = p .right;
+            });
       }
 
   pub forked : {f : Fork} → f ≡ forkAt t x → Forked t more x f

@@ -39,7 +39,8 @@ spelled-within t c x (node d a b l r) h p =
     let left = spelled-within t c (slotAt t x .left) l (fit-left c (slotAt t x) (p .fit) .0) (p .left) in
     let right = spelled-within t c (slotAt t x .right) r (fit-right c (slotAt t x) (p .fit) .0) (p .right) in
     rw (order-node d a b l r)
-    (within-append c (slotsInOrder l) (d .slot ∷ slotsInOrder r) left (omega (arith, e, p .there), omega (arith, e), right))
+    (within-append c (slotsInOrder l) (d .slot ∷ slotsInOrder r) left
+    (omega (arith, e, p .there), omega (arith, e), right))
 
 -- a list in order
 module _ {t : List ℕ} {c : ℕ} {list : List ℕ} {n : ℕ} (o : InOrder t c list n) where

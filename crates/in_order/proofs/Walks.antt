@@ -22,7 +22,8 @@ use Rattle.in_order.specs.Listed.{Roomy, Written, InOrder}
 pub none-listed : (t list : List ℕ) (x at : ℕ) → x ≡ 0 → Written t list x at list at
 unfolding inOrder size
 none-listed t list x at e = record {
-  slots = λ c T p. sym (append-nil (take at list)) ∙ says-leaf t x (λ (T : Tree). take at list ++ slotsInOrder T) e c T p;
+  slots = λ c T p.
+      sym (append-nil (take at list)) ∙ says-leaf t x (λ (T : Tree). take at list ++ slotsInOrder T) e c T p;
   place = λ c T p. omega arith ∙ says-leaf t x (λ (T : Tree). at + size T) e c T p;
 }
 
@@ -68,12 +69,14 @@ module _ {t list : List ℕ} {more x at : ℕ} {f : Fork} (g : Roomy t more x li
 
       pub listed-here : Written t list x at new n
       unfolding size
-      listed-here = record {
-        slots = says-fork (λ (T : Tree). take at list ++ slotsInOrder T) d
-            (all ∙ ap (λ (k : List ℕ). take at list ++ k) (sym (order-node (batchAt t x) (f .slot .lefth) (f .slot .righth) _ _)));
-        place = says-fork (λ (T : Tree). at + size T) d
-            (omega (arith, is-here, said-at (d .on-right) (λ (T : Tree). here + 1 + size T) (r .place)));
-      }
+      listed-here =
+          let o = order-node (batchAt t x) (f .slot .lefth) (f .slot .righth) (d .on-left .tree) (d .on-right .tree) in
+          record {
+            slots = says-fork (λ (T : Tree). take at list ++ slotsInOrder T) d
+                (all ∙ ap (λ (k : List ℕ). take at list ++ k) (sym o));
+            place = says-fork (λ (T : Tree). at + size T) d
+                (omega (arith, is-here, said-at (d .on-right) (λ (T : Tree). here + 1 + size T) (r .place)));
+          }
 
 -- the whole table
 module _ {t : List ℕ} {c x : ℕ} (w : Whole t c) (ex : x ≡ word t rootWord) where

@@ -25,7 +25,8 @@ pub enum Reply {
 
 // Carries a command out.
 fn carry_out(t: &mut [u32], command: Command) -> Reply
-    ensures { λ r. ⌜ (r ≡ replyOf (now (t .entry)) (wishOf command)) × (now (t .exit) ≡ tableAfter (now (t .entry)) (wishOf command)) ⌝ }
+    ensures { λ r. ⌜ (r ≡ replyOf (now (t .entry)) (wishOf command))
+        × (now (t .exit) ≡ tableAfter (now (t .entry)) (wishOf command)) ⌝ }
 {
     match command {
         Command::Post { key, pieces, state } => Reply::Say(index::post(t, key, pieces, state)),
@@ -45,7 +46,8 @@ fn carry_out(t: &mut [u32], command: Command) -> Reply
 // Puts a reply into the buffer: the place after it.
 fn put_reply(t: &[u32], reply: Reply, out: &mut [u8], at: usize) -> usize
     requires { ⌜ at + listRoom (length (now t)) ≤ length (now out) ⌝ }
-    ensures { λ n. ⌜ PutIn (now (out .entry)) at (replyText (now (t .entry)) reply) (now (out .exit)) n (listRoom (length (now (t .entry)))) ⌝ }
+    ensures { λ n. ⌜ PutIn (now (out .entry)) at (replyText (now (t .entry)) reply) (now (out .exit)) n
+        (listRoom (length (now (t .entry)))) ⌝ }
 {
     match reply {
         Reply::Say(a) => text_print::put_answer(out, at, a),
@@ -56,7 +58,8 @@ fn put_reply(t: &[u32], reply: Reply, out: &mut [u8], at: usize) -> usize
 // Reads a line, carries it out, and puts what it prints into the buffer: the place after it.
 pub fn step(t: &mut [u32], line: &[u8], out: &mut [u8], at: usize) -> usize
     requires { ⌜ at + listRoom (length (now t)) ≤ length (now out) ⌝ }
-    ensures { λ n. ⌜ PutIn (now (out .entry)) at (stepText (now (t .entry)) (now (line .entry))) (now (out .exit)) n (listRoom (length (now (t .entry)))) ⌝ }
+    ensures { λ n. ⌜ PutIn (now (out .entry)) at (stepText (now (t .entry)) (now (line .entry))) (now (out .exit)) n
+        (listRoom (length (now (t .entry)))) ⌝ }
     ensures { λ _. ⌜ now (t .exit) ≡ stepTable (now (t .entry)) (now (line .entry)) ⌝ }
 {
     let reply = carry_out(t, text_lines::parse(line));

@@ -17,7 +17,8 @@ pub struct Filled {
 // Answers the lines from the place `from` on, as many as have room in the buffer.
 pub fn fill(t: &mut [u32], input: &[u8], from: usize, out: &mut [u8]) -> Filled
     requires { ⌜ (deskRoom ≤ length (now out)) × (length (now t) ≡ deskWords) ⌝ }
-    ensures { λ r. ⌜ Answered (now (t .entry)) (now (input .entry)) from (now (t .exit)) (now (out .exit)) (r .next) (r .at) ⌝ }
+    ensures { λ r. ⌜ Answered (now (t .entry)) (now (input .entry)) from (now (t .exit)) (now (out .exit))
+        (r .next) (r .at) ⌝ }
     ensures { λ r. ⌜ (from < length (now (input .entry)) → from < r .next) ⌝ }
 {
     let last = out.len() - DESK_ROOM;

@@ -24,8 +24,10 @@ fn hand_on(input: &[u8], sent: usize, out: &[u8], at: usize)
 
 // Answers each line of the input, and writes all that `stand` prints, piece after piece: the result is how many bytes.
 fn answer_all(input: &[u8], t: &mut [u32], out: &mut [u8]) -> usize
-    requires { ⌜ (length (now input) ≤ mostInput) × (now t ≡ newDesk) × (deskRoom ≤ length (now out)) × (length (now out) ≤ 16384) ⌝ }
-    ensures { λ r. ⌜ (r ≡ length (runText (now (input .entry)))) × (now (t .exit) ≡ wholeRun (now (t .entry)) (now (input .entry)) .table) ⌝ }
+    requires { ⌜ (length (now input) ≤ mostInput) × (now t ≡ newDesk)
+        × (deskRoom ≤ length (now out)) × (length (now out) ≤ 16384) ⌝ }
+    ensures { λ r. ⌜ (r ≡ length (runText (now (input .entry))))
+        × (now (t .exit) ≡ wholeRun (now (t .entry)) (now (input .entry)) .table) ⌝ }
 {
     let mut from = 0;
     let mut sent = 0;

@@ -12,7 +12,7 @@ ghost use Rattle.text_print.specs.Put.{PutIn};
 ghost use Rattle.text_print.specs.Line.{answerRoom, recordRoom};
 ghost use Rattle.text_list.specs.List.{allLines, listAnswer, listed, listText, listRoom};
 
-// Puts the lines of the records in the first n slots of a list: those of a sound table of c slots, which is only for the
+// Puts the lines of the records in the first n slots of a list: those of a sound table of c slots. c is only for the
 // contract.
 fn put_all(t: &[u32], c: usize, list: &[usize], n: usize, out: &mut [u8], at: usize) -> usize
     requires { ⌜ Whole (now t) c × InOrder (now t) c (now list) n × (at + recordRoom * c ≤ length (now out)) ⌝ }
@@ -51,7 +51,8 @@ fn answer(t: &[u32]) -> Answer
 // Puts all that list prints of a sound table.
 fn put_listed(t: &[u32], c: usize, out: &mut [u8], at: usize) -> usize
     requires { ⌜ Whole (now t) c × (at + (answerRoom + recordRoom * c) ≤ length (now out)) ⌝ }
-    ensures { λ n. ⌜ PutIn (now (out .entry)) at (listed (now (t .entry)) c) (now (out .exit)) n (answerRoom + recordRoom * c) ⌝ }
+    ensures { λ n. ⌜ PutIn (now (out .entry)) at (listed (now (t .entry)) c) (now (out .exit)) n
+        (answerRoom + recordRoom * c) ⌝ }
 {
     let p = text_print::put_answer(out, at, answer(t));
     put_records(t, c, out, p)
@@ -60,7 +61,8 @@ fn put_listed(t: &[u32], c: usize, out: &mut [u8], at: usize) -> usize
 // Puts what list prints: the place after it.
 pub fn put_list(t: &[u32], out: &mut [u8], at: usize) -> usize
     requires { ⌜ at + listRoom (length (now t)) ≤ length (now out) ⌝ }
-    ensures { λ n. ⌜ PutIn (now (out .entry)) at (listText (now (t .entry))) (now (out .exit)) n (listRoom (length (now (t .entry)))) ⌝ }
+    ensures { λ n. ⌜ PutIn (now (out .entry)) at (listText (now (t .entry))) (now (out .exit)) n
+        (listRoom (length (now (t .entry)))) ⌝ }
 {
     match sound::enter_sound(t, true) {
         Gate::Shut(why) => text_print::put_answer(out, at, gate::refuse(why)),

@@ -19,7 +19,7 @@ use Rattle.fork.specs.Hangs.{Says}
 use Rattle.total.specs.Adding.{Adding, countedOf, totalOn}
 use Rattle.fork.proofs.Down.{Forked, sizes, said-at, says-leaf, says-fork}
 
-pub height-most : (T : Tree) → trueHeight T ≤ size T
+height-most : (T : Tree) → trueHeight T ≤ size T
 unfolding trueHeight size
 height-most leaf = omega arith
 height-most (node d a b l r) = omega (arith, height-most l, height-most r)
@@ -65,7 +65,10 @@ module _ {t : List ℕ} {more x : ℕ} {f : Fork} (d : Forked t more x f) where
 
     pub height-here : {r : ℕ} → r ≡ over a b → Says t x trueHeight r
     unfolding trueHeight
-    height-here e = says-fork trueHeight d (cc (e, said-at (d .on-left) trueHeight sa, said-at (d .on-right) trueHeight sb))
+    height-here e =
+        let l = said-at (d .on-left) trueHeight sa in
+        let r = said-at (d .on-right) trueHeight sb in
+        says-fork trueHeight d (cc (e, l, r))
 
 -- nothing is added at the empty link
 pub nothing-added : (t : List ℕ) (x sum K : ℕ) → x ≡ 0 → Says t x (totalOn sum K) sum

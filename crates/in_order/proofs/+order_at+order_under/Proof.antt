@@ -44,7 +44,8 @@ sides : (t : ℕ) (c : at-lts.After-fork-at (
   under-below t,
   under.Post,
 ) (at-now t) at.Post)
-    → let start = c .before .before .before .args in Forked (start .t .now) (start .more) (start .x) (c .fork-at .result)
+    → let start = c .before .before .before .args in
+    Forked (start .t .now) (start .more) (start .x) (c .fork-at .result)
 sides t c =
     let pre = c .before .before .before .pre .1 in
     forked (pre .1 .hangs) (omega (arith, pre .0)) (c .fork-at .ensures)
@@ -94,7 +95,8 @@ pub +order-at+order-under-spec : {M : Type 1} → statement M
     let v = u .before .before in
     let d = sides t v in
     let start = v .before .before .before in
-    (omega (arith, start .pre .0, d .some), right-room (start .pre .1 .1) d (u .order-under .kept .1 .1 .1 .0) (u .order-under .ensures)))
+    let room = right-room (start .pre .1 .1) d (u .order-under .kept .1 .1 .1 .0) (u .order-under .ensures) in
+    (omega (arith, start .pre .0, d .some), room))
     -- same-length
     (λ c.
     let w = c .before .before in
@@ -108,7 +110,8 @@ pub +order-at+order-under-spec : {M : Type 1} → statement M
     let u = w .before .before .before .before in
     let v = u .before .before in
     let start = v .before .before .before in
-    listed-here (start .pre .1 .1) (sides t v) (u .order-under .kept .1 .1 .1 .0) (u .order-under .ensures) (w .order-under2 .ensures)))
+    listed-here (start .pre .1 .1) (sides t v) (u .order-under .kept .1 .1 .1 .0) (u .order-under .ensures)
+    (w .order-under2 .ensures)))
     λ t. under-lts.spec
     (at-below t, at.Post)
     (under-now t)

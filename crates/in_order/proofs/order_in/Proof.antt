@@ -14,8 +14,10 @@ root-requires c κs = search needs
 order-at-requires : tie.Need-order-at-requires
 order-at-requires c κs =
     let v = c .before .before in
-    let start = v .before .before .before .before in
-    (omega (arith, c .before .if1 .left), whole-room (start .pre .0) (v .root .ensures) (v .before .records .ensures) (start .pre .1))
+    let start = v .before .before .before .before in (
+      omega (arith, c .before .if1 .left),
+      whole-room (start .pre .0) (v .root .ensures) (v .before .records .ensures) (start .pre .1),
+    )
 
 returns : tie.Need-returns
 returns c =
@@ -30,8 +32,8 @@ returns-2 : tie.Need-returns-2
 returns-2 c =
     let v = c .before .before .before .before .before in
     let start = v .before .before .before .before in
-    all-listed (start .pre .0) (v .root .ensures) (omega (arith, start .pre .1, c .before .before .order-at .kept .1 .1 .1 .0))
-    (c .before .before .order-at .ensures)
+    let done = c .before .before .order-at in
+    all-listed (start .pre .0) (v .root .ensures) (omega (arith, start .pre .1, done .kept .1 .1 .1 .0)) (done .ensures)
 
 pub order-in-spec : {M : Type 1} → statement M
 order-in-spec =

@@ -35,7 +35,8 @@ put-record-requires c κs =
     let b = c .before .before .before .before in
     let pre = b .before .before .before .before .pre in
     let inv = b .loop .inv in
-    omega (arith, pre .2, inv .1, inv .2 .within, listed-few (pre .0) (pre .1), c .before .before .before .loop-test .taken)
+    let more = c .before .before .before .loop-test .taken in
+    omega (arith, pre .2, inv .1, inv .2 .within, listed-few (pre .0) (pre .1), more)
 
 add-i : tie.Need-add-i Inv-loop μ-loop
 add-i c = omega arith
@@ -50,7 +51,8 @@ loop-again c =
     let b = c .before .before .before .before .before .before .before in
     let o = b .before .before .before .before .pre .1 in
     let more = c .before .before .before .before .before .before .loop-test .taken in
-    (omega arith, put .kept .0 ∙ b .loop .inv .1, first-more o (b .loop .i) more (b .loop .inv .2) (rw s at (put .ensures)))
+    let inv = b .loop .inv in
+    (omega arith, put .kept .0 ∙ inv .1, first-more o (b .loop .i) more (inv .2) (rw s at (put .ensures)))
 
 same-length : tie.Need-same-length Inv-loop μ-loop
 same-length c = c .before .loop .inv .1

@@ -75,7 +75,8 @@ pub +total-at+total-under-spec : {M : Type 1} → statement M
     -- add-total-under
     (λ c.
     let v = c .before .before .before in
-    let room = right-room (v .before .before .pre .1 .1) (sides t v) _ (c .before .total-under .ensures) (c .counted .ensures) in
+    let start = v .before .before in
+    let room = right-room (start .pre .1 .1) (sides t v) _ (c .before .total-under .ensures) (c .counted .ensures) in
     omega (arith, room .room))
     -- total-under-requires-2
     (λ c κs.
@@ -87,8 +88,8 @@ pub +total-at+total-under-spec : {M : Type 1} → statement M
     -- returns
     (λ c.
     let v = c .before .before .before .before in
-    total-here (v .before .before .pre .1 .1) (sides t v) _ (c .before .before .total-under .ensures) (c .before .counted .ensures)
-    (c .total-under2 .ensures)))
+    total-here (v .before .before .pre .1 .1) (sides t v) _ (c .before .before .total-under .ensures)
+    (c .before .counted .ensures) (c .total-under2 .ensures)))
     λ t. under-lts.spec
     (at-below t, at.Post)
     (under-now t)

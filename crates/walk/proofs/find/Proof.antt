@@ -28,13 +28,16 @@ found-requires c κs =
 
 returns : tie.Need-returns
 unfolding findAnswer
-returns c = let b = c .before .before in simp (sym (b .before .before .enter .ensures), b .why .given .1, sym (c .refuse .ensures))
+returns c =
+    let b = c .before .before in
+    simp (sym (b .before .before .enter .ensures), b .why .given .1, sym (c .refuse .ensures))
 
 returns-2 : tie.Need-returns-2
 unfolding findAnswer
 returns-2 c =
     let b = c .before .before .before in
-    simp (sym (b .before .before .enter .ensures), b .c .given .1, sym (c .before .search .ensures .is), sym (c .found .ensures))
+    let walked = c .before .search .ensures .is in
+    simp (sym (b .before .before .enter .ensures), b .c .given .1, sym walked, sym (c .found .ensures))
 
 pub find-spec : {M : Type 1} → statement M
 find-spec =

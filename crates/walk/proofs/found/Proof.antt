@@ -22,7 +22,10 @@ enum-known-w : tie.Need-enum-known-w
 enum-known-w c = search needs
 
 slot-at-requires : tie.Need-slot-at-requires
-slot-at-requires c κs = let i = rw (c .before .w .given .1) at (c .before .before .before .before .pre .1) in record { first = omega arith; whole = omega arith }
+slot-at-requires c κs =
+    let b = c .before in
+    let i = rw (b .w .given .1) at (b .before .before .before .pre .1) in
+    record { first = omega arith; whole = omega arith }
 
 change-requires : tie.Need-change-requires
 change-requires c κs = search needs
@@ -52,7 +55,18 @@ returns-2 c = simp (c .before .enum-told2 .given .1, sym (c .refuse2 .ensures))
 
 returns-3 : tie.Need-returns-3
 unfolding foundIn
-returns-3 c = simp (c .before .before .before .before .before .before .before .before .w .given .1, sym (c .before .before .before .before .before .before .slot-at .ensures), sym (c .before .before .before .before .before .change .ensures), sym (c .before .before .before .before .long .ensures), sym (c .before .before .before .long2 .ensures), sym (c .before .before .size .ensures), sym (c .before .long3 .ensures), sym (c .accept .ensures))
+returns-3 c =
+    let l = c .before .before .before .before in
+    simp (
+      l .before .before .before .before .w .given .1,
+      sym (l .before .before .slot-at .ensures),
+      sym (l .before .change .ensures),
+      sym (l .long .ensures),
+      sym (c .before .before .before .long2 .ensures),
+      sym (c .before .before .size .ensures),
+      sym (c .before .long3 .ensures),
+      sym (c .accept .ensures),
+    )
 
 pub found-spec : {M : Type 1} → statement M
 found-spec =

@@ -26,13 +26,22 @@ accept-requires : tie.Need-accept-requires
 accept-requires c κs = search needs
 
 returns : tie.Need-returns
-returns c = let e = sym (start-shut (now (c .before .before .before .before .before .args .t)) (sym (c .before .before .before .capacity .ensures) ∙ c .before .enum-told .given .1)) in (c .refuse .ensures ∙ ap (λ (d : Done). d .answer) e, ap (λ (d : Done). d .words) e)
+returns c =
+    let b = c .before in
+    let t = now (b .before .before .before .before .args .t) in
+    let e = sym (start-shut t (sym (b .before .before .capacity .ensures) ∙ b .enum-told .given .1)) in
+    (c .refuse .ensures ∙ ap (λ (d : Done). d .answer) e, ap (λ (d : Done). d .words) e)
 
 same-length : tie.Need-same-length
 same-length c = search needs
 
 returns-2 : tie.Need-returns-2
-returns-2 c = let e = sym (start-open (now (c .before .before .before .before .before .before .before .before .before .args .t)) _ (sym (c .before .before .before .before .before .before .before .capacity .ensures) ∙ c .before .before .before .before .before .enum-told2 .given .1)) in (c .accept .ensures ∙ ap (λ (d : Done). d .answer) e, c .before .before .before .clear .ensures ∙ ap (λ (d : Done). d .words) e)
+returns-2 c =
+    let b = c .before .before .before .before .before in
+    let t = now (b .before .before .before .before .args .t) in
+    let e = sym (start-open t _ (sym (b .before .before .capacity .ensures) ∙ b .enum-told2 .given .1)) in
+    let cleared = c .before .before .before .clear .ensures in
+    (c .accept .ensures ∙ ap (λ (d : Done). d .answer) e, cleared ∙ ap (λ (d : Done). d .words) e)
 
 pub start-spec : {M : Type 1} → statement M
 start-spec =

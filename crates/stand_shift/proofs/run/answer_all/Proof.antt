@@ -27,9 +27,8 @@ fill-requires c κs = omega arith
 hand-on-requires : tie.Need-hand-on-requires Inv-loop μ-loop
 hand-on-requires c κs =
     let a = c .before .before .before .before .before .fill .ensures .0 in
-    let i = c .before .before .before .before .before .before .before .before .before .loop .inv in
-    let p = c .before .before .before .before .before .before .before .before .before .before .before .before .before .pre in
-    (omega arith, told-piece (i .0) a (p .0))
+    let b = c .before .before .before .before .before .before .before .before .before in
+    (omega arith, told-piece (b .loop .inv .0) a (b .before .before .before .before .pre .0))
 
 add-sent : tie.Need-add-sent Inv-loop μ-loop
 add-sent c = omega arith

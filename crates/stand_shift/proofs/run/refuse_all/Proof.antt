@@ -1,4 +1,4 @@
--- `stand_shift::run::refuse_all` hands on the refusal, which is all that is printed on an input that is too long. Assumes nothing.
+-- `stand_shift::run::refuse_all` hands on the refusal, which is all that is printed then. Assumes nothing.
 use borrow.Author.Needs.{needs}
 use Rattle.stand_shift.proofs.Telling.{told-refused}
 use Rattle.stand_shift.proofs.run.refuse_all.Statement.{statement}
