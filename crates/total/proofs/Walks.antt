@@ -75,33 +75,27 @@ pub nothing-added : (t : List ℕ) (x sum K : ℕ) → x ≡ 0 → Says t x (tot
 unfolding totalOf
 nothing-added t x sum K e c T p = omega arith ∙ says-leaf t x (totalOn sum K) e c T p
 
--- adding up the pieces at a slot and on its two sides
-module _ {t : List ℕ} {more x sum : ℕ} {f : Fork} (g : Adding t more x sum) (d : Forked t more x f) where
-  pub left-room : Adding t (more - 1) (f .left) sum
-  left-room = record { hangs = d .on-left; room = omega (arith, g .room, sizes (g .hangs) d) }
+-- adding up the pieces at a slot, which counts `own`, and on its two sides
+module _ {t : List ℕ} {more x sum : ℕ} {f : Fork} (g : Adding t more x sum) (d : Forked t more x f) (K : ℕ) {own : ℕ}
+    (eo : own ≡ countedOf K (f .slot .key) (f .slot .pieces)) where
+  own-few : own ≤ 1000000
+  own-few = omega (arith, eo, own-most (leb (f .slot .key) K) (f .slot .pieces), pieces-most (d .c) (f .slot) (d .fit))
 
-  module _ (K : ℕ) {a : ℕ} (sa : Says t (f .left) (totalOn sum K) a) where
-    module _ {own : ℕ} (eo : own ≡ countedOf K (f .slot .key) (f .slot .pieces)) where
-      pub right-room : Adding t (more - 1) (f .right) (a + own)
-      right-room =
-          let l = d .on-left in
-          record {
-            hangs = d .on-right;
-            room = omega (
-              arith,
-              g .room,
-              sizes (g .hangs) d,
-              eo,
-              said-at l (totalOn sum K) sa,
-              total-most t (l .slots) K (f .left) (l .tree) (l .reached),
-              own-most (leb (f .slot .key) K) (f .slot .pieces),
-              pieces-most (d .c) (f .slot) (d .fit),
-            );
-          }
+  pub left-room : Adding t (more - 1) (f .left) (sum + own)
+  left-room = record { hangs = d .on-left; room = omega (arith, g .room, sizes (g .hangs) d, own-few) }
 
-      pub total-here : {r : ℕ} → Says t (f .right) (totalOn (a + own) K) r → Says t x (totalOn sum K) r
-      unfolding totalOf
-      total-here sr =
-          let is : own ≡ countedOf K (slotAt t x .key) (slotAt t x .pieces) = rw (sym (d .slot)) eo in
-          says-fork (totalOn sum K) d
-          (omega (arith, is, said-at (d .on-left) (totalOn sum K) sa, said-at (d .on-right) (totalOn (a + own) K) sr))
+  module _ {a : ℕ} (sa : Says t (f .left) (totalOn (sum + own) K) a) where
+    on-left : a ≡ sum + own + totalOf K (d .on-left .tree)
+    on-left = said-at (d .on-left) (totalOn (sum + own) K) sa
+
+    pub right-room : Adding t (more - 1) (f .right) a
+    right-room =
+        let l = d .on-left in
+        let few = total-most t (l .slots) K (f .left) (l .tree) (l .reached) in
+        record { hangs = d .on-right; room = omega (arith, g .room, sizes (g .hangs) d, own-few, on-left, few) }
+
+    pub total-here : {r : ℕ} → Says t (f .right) (totalOn a K) r → Says t x (totalOn sum K) r
+    unfolding totalOf
+    total-here sr =
+        let is : own ≡ countedOf K (slotAt t x .key) (slotAt t x .pieces) = rw (sym (d .slot)) eo in
+        says-fork (totalOn sum K) d (omega (arith, is, on-left, said-at (d .on-right) (totalOn a K) sr))

@@ -81,8 +81,8 @@ pub fn total_at(t: &[u32], more: usize, x: usize, key: u32, sum: u64) -> u64
     let f = fork::fork_at(t, x);
     let less = more - 1;
     let slot = f.slot;
-    let a = total_under(t, less, f.left, key, sum);
-    total_under(t, less, f.right, key, a + counted(slot, key))
+    let left = total_under(t, less, f.left, key, sum + counted(slot, key));
+    total_under(t, less, f.right, key, left)
 }
 
 // The same at a link, which may be empty.
