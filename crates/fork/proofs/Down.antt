@@ -1,5 +1,5 @@
 -- One step down a hanging tree, for every walk of it; and the tree at the root. Assumes nothing.
-use Prim.Native.Nat.{ℕ, _+_, _-_, _≤_, _<_}
+use Prim.Native.Nat.{ℕ, suc, _+_, _-_, _≤_, _<_}
 use mathlib.Core.Path.{_≡_, refl, sym, ap, _∙_}
 use mathlib.Core.Bool.{true}
 use mathlib.Core.List.{List}
@@ -60,7 +60,15 @@ module _ {t : List ℕ} {more x : ℕ} (h : Hangs t more x) (ne : x ≡ 0 → �
         on-right = below r (slotAt t x .right) (fit-right (h .slots) (slotAt t x) (p .fit) .0) (p .right) (omega arith);
         few = omega arith;
         whole = λ c T q. unique t c (h .slots) x T (node (batchAt t x) (slotAt t x .lefth) (slotAt t x .righth) l r) q
-            (record { there = p .there; fit = p .fit; holds = refl; lefth = refl; righth = refl; left = p .left; right = p .right });
+            (record {
+              there = p .there;
+              fit = p .fit;
+              holds = refl;
+              lefth = refl;
+              righth = refl;
+              left = p .left;
+              right = p .right;
+            });
       }
 
   pub forked : {f : Fork} → f ≡ forkAt t x → Forked t more x f
@@ -85,6 +93,12 @@ pub says-fork : {A : Type 0} {t : List ℕ} {more x : ℕ} {f : Fork} (g : Tree 
     → r ≡ g (node (batchAt t x) (f .slot .lefth) (f .slot .righth) (d .on-left .tree) (d .on-right .tree))
     → Says t x g r
 says-fork g d e c T p = e ∙ ap g (sym (d .whole c T p))
+
+-- what hangs at a fork are its slot and its two sides
+pub sizes : {t : List ℕ} {more x : ℕ} {f : Fork} (h : Hangs t more x) (d : Forked t more x f)
+    → size (h .tree) ≡ suc (size (d .on-left .tree) + size (d .on-right .tree))
+unfolding size
+sizes h d = ap size (d .whole (h .slots) (h .tree) (h .reached))
 
 -- the tree of a sound table hangs at its root, as the code reads it
 module _ {t : List ℕ} {c x : ℕ} (w : Whole t c) (ex : x ≡ word t rootWord) where

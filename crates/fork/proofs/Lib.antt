@@ -1,2 +1,3 @@
 -- Laws of walks over both subtrees.
 pub mod Down
+pub mod Order

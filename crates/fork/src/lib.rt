@@ -1,5 +1,5 @@
-// A slot with its two sons, and what every walk over both subtrees stands on: a tree hangs at a link, with a count of the
-// slots that may still be reached, which falls at each slot.
+// A slot with its two sons, and what every walk over both subtrees stands on: a tree hangs at a link, and a count of
+// the slots that may still be reached falls at each slot.
 use scope::Slot;
 ghost use mathlib.Core.Path.{_≡_};
 ghost use Rattle.scope.specs.Table.{InTable};

@@ -8,7 +8,7 @@ use lib.Dec.{leb, eqb}
 use lib.Bits.{bitOr, or-lt, or-add-and, and-le-l, and-le-r}
 use borrow.Author.Tests.{leb-true, le-leb, eqb-true, eq-eqb, ne-eqb}
 use Rattle.scope.specs.Numbers.{mostHeight}
-use Rattle.scope.specs.Fit.{stateOk, piecesOk, linkOk, tailOk, fitSlot}
+use Rattle.scope.specs.Fit.{stateOk, piecesOk, linkOk, tailOk, tailFits, fitSlot}
 use Rattle.scope.specs.declared.slot.Slot.{Slot}
 use Rattle.scope.proofs.Bools.{and-l, and-r, both, never}
 use Rattle.gate.specs.Parts.{burdenOf, besideOk, registersOk, contentsOk, linksOk}
@@ -106,6 +106,6 @@ regroup e z k p l r h i j m =
 pub fit-together : (c : ℕ) (s : Slot) → (contentsOk s && linksOk c s) ≡ fitSlot c s
 unfolding fitSlot linkOk
 fit-together c s =
-    regroup (stateOk (s .state)) (tailOk (s .last)) (not (eqb (s .key) 0)) (piecesOk (s .pieces)) (leb (s .left) c)
+    regroup (stateOk (s .state)) (tailFits s) (not (eqb (s .key) 0)) (piecesOk (s .pieces)) (leb (s .left) c)
     (leb (s .right) c) (leb (s .lefth) mostHeight) (not (eqb (s .left) 0) || eqb (s .lefth) 0) (leb (s .righth) mostHeight)
     (not (eqb (s .right) 0) || eqb (s .righth) 0)

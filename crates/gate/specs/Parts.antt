@@ -3,7 +3,7 @@ use Prim.Native.Nat.{ℕ}
 use mathlib.Core.Bool.{Bool, cond, not, _&&_, _||_}
 use lib.Dec.{leb, eqb}
 use Rattle.scope.specs.Numbers.{mostHeight}
-use Rattle.scope.specs.Fit.{stateOk, piecesOk, tailOk}
+use Rattle.scope.specs.Fit.{stateOk, piecesOk, tailFits}
 use Rattle.scope.specs.declared.slot.Slot.{Slot}
 
 -- what makes any height beside an empty link too high
@@ -19,7 +19,7 @@ registersOk s = besideOk (s .left) (s .lefth) && besideOk (s .right) (s .righth)
 
 -- the state, and the zero at the end
 abbrev pub endsOk : Slot → Bool
-endsOk s = stateOk (s .state) && tailOk (s .last)
+endsOk s = stateOk (s .state) && tailFits s
 
 -- what a slot tells by itself
 abbrev pub contentsOk : Slot → Bool

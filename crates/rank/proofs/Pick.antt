@@ -1,15 +1,14 @@
 -- The r-th of a list that is put together from two. Assumes nothing.
 use Prim.Native.Nat.{ℕ, suc, _+_, _-_, _≤_, _<_}
 use mathlib.Core.Path.{_≡_, refl, sym, ap, _∙_}
-use mathlib.Core.List.{List, _∷_, _++_, map-append}
+use mathlib.Core.List.{List, _∷_, _++_}
 use native.Mathlib.Decide.{decLe}
 use native.Mathlib.Omega.{arith}
 use lib.ListN.{length, getD, length-append, List·getD-append}
 use lib.Seq.{getD-append-add, getD-append-seam}
 use borrow.Author.Tests.{le-leb, lt-leb}
 use Rattle.scope.proofs.Bools.{never}
-use Rattle.scope.specs.Tree.{Batch, Tree, leaf, node, size, inOrder}
-use Rattle.scope.specs.Sums.{slotsInOrder, pick}
+use Rattle.scope.specs.Sums.{pick}
 use Rattle.scope.specs.declared.outcome.Rank.{Rank}
 use Rattle.scope.specs.declared.outcome.Rank.the-variants.{At, Past}
 
@@ -17,19 +16,6 @@ use Rattle.scope.specs.declared.outcome.Rank.the-variants.{At, Past}
 abbrev pub afterRank : ℕ → Rank → Rank
 afterRank seen (At k) = At k
 afterRank seen (Past n) = Past (seen + n)
-
--- a node's slots in order are those on its left, its own, and those on its right
-pub order-node : (d : Batch) (a b : ℕ) (l r : Tree)
-    → slotsInOrder (node d a b l r) ≡ slotsInOrder l ++ (d .slot ∷ slotsInOrder r)
-unfolding inOrder
-order-node d a b l r = map-append (λ (e : Batch). e .slot) (inOrder l) (d ∷ inOrder r)
-
-pub order-size : (T : Tree) → length (slotsInOrder T) ≡ size T
-unfolding inOrder size
-order-size leaf = refl
-order-size (node d a b l r) =
-    ap length (order-node d a b l r) ∙ length-append (slotsInOrder l) (d .slot ∷ slotsInOrder r)
-    ∙ omega (arith, order-size l, order-size r)
 
 pick-at : (r : ℕ) (l : List ℕ) → r ≤ length l → pick r l ≡ At (getD l (r - 1) 0)
 unfolding pick

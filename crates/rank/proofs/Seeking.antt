@@ -18,7 +18,8 @@ use Rattle.fork.specs.declared.Fork.{Fork}
 use Rattle.fork.specs.Hangs.{Hangs, Says}
 use Rattle.rank.specs.Ranks.{firstRank, rankSaid, Seeks}
 use Rattle.fork.proofs.Down.{Forked, said-at, at-leaf, says-leaf, says-fork}
-use Rattle.rank.proofs.Pick.{afterRank, order-node, order-size, pick-past, past-is}
+use Rattle.fork.proofs.Order.{order-node, order-size}
+use Rattle.rank.proofs.Pick.{afterRank, pick-past}
 use Rattle.rank.proofs.Pick.{pick-left, pick-here, pick-after}
 
 -- what a number below the first rank says, and one from there on
@@ -41,7 +42,7 @@ rank-leaf t x w pos e = record {
 }
 
 -- a rank above the number of records
-pub rank-beyond : (r : ℕ) (T : Tree) → size T < r → Past (size T) ≡ rankOf r T
+rank-beyond : (r : ℕ) (T : Tree) → size T < r → Past (size T) ≡ rankOf r T
 unfolding rankOf
 rank-beyond r T h =
     ap Past (sym (order-size T)) ∙ sym (pick-past r (slotsInOrder T) (omega (arith, order-size T)))
@@ -55,22 +56,20 @@ module _ {t : List ℕ} {more x : ℕ} {f : Fork} (d : Forked t more x f) {r : �
 
   rank-node : {q : Rank} → pick r (L ++ (x ∷ R)) ≡ q → Says t x (rankOf r) q
   unfolding rankOf
-  rank-node e = says-fork (rankOf r) d (sym e ∙ ap (pick r) (sym (order-node (batchAt t x) (f .slot .lefth) (f .slot .righth) _ _)))
+  rank-node e =
+      let o = order-node (batchAt t x) (f .slot .lefth) (f .slot .righth) (d .on-left .tree) (d .on-right .tree) in
+      says-fork (rankOf r) d (sym e ∙ ap (pick r) (sym o))
 
   module _ {a : Rank} (sa : Says t (f .left) (rankOf r) a) where
     on-left : a ≡ pick r L
     unfolding rankOf
     on-left = said-at (d .on-left) (rankOf r) sa
 
-    pub rank-left : {k : ℕ} → a ≡ At k → Says t x (rankOf r) (At k)
+    rank-left : {k : ℕ} → a ≡ At k → Says t x (rankOf r) (At k)
     rank-left {k} e = rank-node (pick-left r L x R pos k (sym on-left ∙ e))
 
     module _ {n : ℕ} (e : a ≡ Past n) where
-      -- the slots on the left and this one are few, and fewer than r but for this one
-      pub seen-few : (n + 1 ≤ mostSlots) × (n < r)
-      seen-few = omega (arith, past-is r L n (sym on-left ∙ e), order-size (d .on-left .tree), d .few, d .most)
-
-      pub rank-here : n + 1 ≡ r → Says t x (rankOf r) (At x)
+      rank-here : n + 1 ≡ r → Says t x (rankOf r) (At x)
       rank-here i = rank-node (pick-here r L x R pos n (sym on-left ∙ e) i)
 
       module _ {b : Rank} (sb : Says t (f .right) (rankOf (r - (n + 1))) b) where
@@ -78,8 +77,9 @@ module _ {t : List ℕ} {more x : ℕ} {f : Fork} (d : Forked t more x f) {r : �
         unfolding rankOf
         on-right = said-at (d .on-right) (rankOf (r - (n + 1))) sb
 
-        pub rank-after : (n + 1 ≡ r → ⊥) → {q : Rank} → q ≡ afterRank (n + 1) b → Says t x (rankOf r) q
-        rank-after ne eq = rank-node (pick-after r L x R pos n (sym on-left ∙ e) ne ∙ ap (afterRank (n + 1)) (sym on-right) ∙ sym eq)
+        rank-after : (n + 1 ≡ r → ⊥) → {q : Rank} → q ≡ afterRank (n + 1) b → Says t x (rankOf r) q
+        rank-after ne eq =
+            rank-node (pick-after r L x R pos n (sym on-left ∙ e) ne ∙ ap (afterRank (n + 1)) (sym on-right) ∙ sym eq)
 
 -- the walk's numbers at a slot
 module _ {t : List ℕ} {more x w n : ℕ} {f : Fork} (h : Hangs t more x) (d : Forked t more x f) (pos : firstRank ≤ w)

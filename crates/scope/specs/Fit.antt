@@ -22,11 +22,14 @@ linkOk c link height = leb link c && leb height mostHeight && (not (eqb link 0) 
 unfoldable pub tailOk : ℕ → Bool
 tailOk last = eqb last 0
 
+abbrev pub tailFits : Slot → Bool
+tailFits s = tailOk (s .last)
+
 -- a slot that holds a record whose every field is in range
 unfoldable pub fitSlot : ℕ → Slot → Bool
 fitSlot c s =
     stateOk (s .state) && not (eqb (s .key) 0) && piecesOk (s .pieces)
-    && linkOk c (s .left) (s .lefth) && linkOk c (s .right) (s .righth) && tailOk (s .last)
+    && linkOk c (s .left) (s .lefth) && linkOk c (s .right) (s .righth) && tailFits s
 
 -- every word is zero
 unfoldable pub blankSlot : Slot → Bool

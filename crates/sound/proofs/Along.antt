@@ -25,11 +25,14 @@ module _ {t m₀ : List ℕ} {c more x low high : ℕ} where
 
     pub along-spent : (m' : List ℕ) → few ≡ 0 → Scanned t m₀ m' c more x low high (scanOf spoiled)
     along-spent m' e =
-        v .whole m' (scanOf spoiled) (is-spoiled t m m' c few at from high (no-room t m c at from high few (v .there) place e))
+        v .whole m' (scanOf spoiled)
+        (is-spoiled t m m' c few at from high (no-room t m c at from high few (v .there) place e))
 
-    pub along-refused : (m' : List ℕ) → (Welcome t m c at from high → ⊥) → Scanned t m₀ m' c more x low high (scanOf spoiled)
+    pub along-refused : (m' : List ℕ) → (Welcome t m c at from high → ⊥)
+        → Scanned t m₀ m' c more x low high (scanOf spoiled)
     along-refused m' d =
-        v .whole m' (scanOf spoiled) (is-spoiled t m m' c few at from high (refused t m c at from high few (v .there) place d))
+        v .whole m' (scanOf spoiled)
+        (is-spoiled t m m' c few at from high (refused t m c at from high few (v .there) place d))
 
     -- the slot was entered
     module _ {m₁ : List ℕ} {l r k : ℕ} (o : EnteredSlot t m m₁ c at from high l r k) where
@@ -45,7 +48,8 @@ module _ {t m₀ : List ℕ} {c more x low high : ℕ} where
         along-spoiled m' e =
             v .whole m' (scanOf spoiled)
             (is-spoiled t m m' c few at from high
-            (left-refused t m c at from high few (v .there) place m₁ l r k o (was-spoiled t m₁ m₂ c (few - 1) l from k e s)))
+            (left-refused t m c at from high few (v .there) place m₁ l r k o
+            (was-spoiled t m₁ m₂ c (few - 1) l from k e s)))
 
         module _ (ne : n ≡ spoiled → ⊥) (some : few ≡ 0 → ⊥) where
           good : Good t m₁ m₂ c (few - 1) l from k n

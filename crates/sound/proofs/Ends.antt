@@ -25,8 +25,8 @@ use Rattle.spelling.proofs.Exact.{sound-test, unsound}
 use Rattle.spelling.proofs.Once.{once-all}
 
 -- one slot more is settled, and with it those that are passed over
-pub settled-past : (t m : List ℕ) {k r : ℕ} → ((j : ℕ) → 1 ≤ j → j < k → settledAt t m j ≡ true) → settledAt t m k ≡ true
-    → Past m k 18446744073709551615 r → (j : ℕ) → 1 ≤ j → j < r → settledAt t m j ≡ true
+pub settled-past : (t m : List ℕ) {k r : ℕ} → ((j : ℕ) → 1 ≤ j → j < k → settledAt t m j ≡ true)
+    → settledAt t m k ≡ true → Past m k 18446744073709551615 r → (j : ℕ) → 1 ≤ j → j < r → settledAt t m j ≡ true
 unfolding settledAt
 settled-past t m {k} before here past j p q =
     elim (decLe j k) [

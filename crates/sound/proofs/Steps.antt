@@ -220,6 +220,7 @@ module _ (t m m' : List ℕ) (c more x low high : ℕ) where
   unfolding scanOf
   is-left {n} h g = simp (ne-eqb n spoiled (λ e. omega arith)) g
 
-  pub was-left : {n : ℕ} → (n ≡ spoiled → ⊥) → Scanned t m m' c more x low high (scanOf n) → Good t m m' c more x low high n
+  pub was-left : {n : ℕ} → (n ≡ spoiled → ⊥) → Scanned t m m' c more x low high (scanOf n)
+      → Good t m m' c more x low high n
   unfolding scanOf
   was-left {n} ne s = simp (ne-eqb n spoiled ne) at s

@@ -49,8 +49,8 @@ pub fn visit(t: &[u32], m: &mut [u64; 64], c: usize, x: usize, low: u64, high: u
 // What a scan says that finds damage: more slots than can be left over.
 pub const SPOILED: usize = Slots::MOST + 1;
 
-// Scans slot x and what hangs below it: at most `more` slots, with keys between two bounds. Says how many are left over.
-// It calls itself for what hangs on the left, and goes on to the right by itself.
+// Scans slot x and what hangs below it: at most `more` slots, with keys between two bounds. Says how many are left
+// over. It calls itself for what hangs on the left, and goes on to the right by itself.
 pub fn scan(
     t: &[u32],
     m: &mut [u64; 64],

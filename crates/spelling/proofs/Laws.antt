@@ -11,7 +11,7 @@ use Rattle.scope.proofs.Bools.{and-l, and-r, by-bool, never}
 use Rattle.scope.specs.Numbers.{slotsOf}
 use Rattle.scope.specs.Table.{headWords, slotWords, word, rootWord, countWord, slotsIn, base, slotAt, son, linkAt}
 use Rattle.scope.specs.Table.{linkPlace, registerAt, registerPlace, InTable}
-use Rattle.scope.specs.Fit.{stateOk, piecesOk, linkOk, tailOk, fitSlot, headerOk}
+use Rattle.scope.specs.Fit.{stateOk, piecesOk, linkOk, tailFits, fitSlot, headerOk}
 use Rattle.scope.specs.Answers.{gate, onSlots, admit}
 use Rattle.scope.specs.declared.slot.Slot.{Slot}
 use Rattle.scope.specs.declared.slots.Slots.{Slots}
@@ -103,7 +103,7 @@ pub fits : (c : ℕ) (s : Slot) → fitSlot c s ≡ true → Fits c s
 unfolding fitSlot
 fits c s e =
     let p = six (stateOk (s .state)) (not (eqb (s .key) 0)) (piecesOk (s .pieces))
-    (linkOk c (s .left) (s .lefth)) (linkOk c (s .right) (s .righth)) (tailOk (s .last)) e in
+    (linkOk c (s .left) (s .lefth)) (linkOk c (s .right) (s .righth)) (tailFits s) e in
     record { state = p .0; left = p .1; right = p .2 }
 
 link-le : (c l h : ℕ) → linkOk c l h ≡ true → (l ≤ c) × (h ≤ 65535)

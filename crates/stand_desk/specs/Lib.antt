@@ -1,2 +1,3 @@
 -- The definitions that the contracts of `desk` cite.
 pub mod Step
+pub mod Desk

@@ -7,7 +7,8 @@ use Rattle.scope.specs.Calls as calls
 use Rattle.scope.specs.declared.answer.Refusal.the-variants as refusals
 use Rattle.text_lines.specs.Form.{commandOf}
 use Rattle.text_lines.specs.declared.command.Command.{Command}
-use Rattle.text_lines.specs.declared.command.Command.the-variants.{Post, Amend, Drop, Find, Rank, Total, Worth, Fire, Tidy, List as Listing, Unreadable}
+use Rattle.text_lines.specs.declared.command.Command.the-variants.{Post, Amend, Drop, Find, Rank, Total, Worth}
+use Rattle.text_lines.specs.declared.command.Command.the-variants.{Fire, Tidy, List as Listing, Unreadable}
 use Rattle.text_print.specs.Line.{answerLine}
 use Rattle.text_list.specs.List.{listText}
 use Rattle.stand_desk.specs.declared.Reply.{Reply}

@@ -3,12 +3,13 @@ use Prim.Native.Nat.{ℕ, zero, suc, _+_, _≤_}
 use mathlib.Core.Path.{_≡_}
 use mathlib.Core.Bool.{cond}
 use mathlib.Core.List.{List, [], _++_}
-use lib.ListN.{length, take, drop, replicate}
+use lib.ListN.{length, take, drop}
 use lib.Dec.{ltb, eqb}
 use Rattle.scope.specs.Answers.{refusal}
 use Rattle.scope.specs.declared.answer.Refusal.the-variants as refusals
 use Rattle.text_fields.specs.Text.{firstLine}
 use Rattle.text_print.specs.Line.{answerLine}
+use Rattle.stand_desk.specs.Desk.{newDesk}
 use Rattle.stand_desk.specs.Step.{stepTable, stepText}
 
 -- what some lines print, and the table after them
@@ -38,9 +39,13 @@ wholeRun t s = linesRun (length s) t s
 abbrev pub refusedText : List ℕ
 refusedText = answerLine (refusal refusals.Unreadable)
 
--- all that `stand` prints: it starts with 15 slots, and an input over 65,536 bytes is one unreadable line
+-- the most bytes of an input
+abbrev pub mostInput : ℕ
+mostInput = 65536
+
+-- all that `stand` prints: it starts with a new desk, and an input that is too long is one unreadable line
 unfoldable pub runText : List ℕ → List ℕ
-runText s = cond (ltb 65536 (length s)) refusedText (wholeRun (replicate 124 0) s .text)
+runText s = cond (ltb mostInput (length s)) refusedText (wholeRun (newDesk) s .text)
 
 -- the lines of s from the place `from` on are answered up to the place `next`: their run is the first `at` bytes of the
 -- buffer, and then the run of the lines from `next` on, on the words u

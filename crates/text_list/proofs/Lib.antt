@@ -1,3 +1,2 @@
 -- What is proved in `listing` beside its functions.
-pub mod Slots
 pub mod Records

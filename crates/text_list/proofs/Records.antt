@@ -1,4 +1,4 @@
--- Records put one after the other, rank by rank. Assumes nothing.
+-- Records put one after the other, from a list of their slots. Assumes nothing.
 use Prim.Native.Nat.{ℕ, _+_, _*_, _≤_, _<_}
 use mathlib.Core.Path.{_≡_, refl, sym, ap, _∙_}
 use mathlib.Core.List.{List, [], _∷_, _++_, append-nil, append-assoc}
@@ -7,15 +7,16 @@ use native.Mathlib.Nat.{add-zero}
 use native.Mathlib.Numerals.{add-one}
 use lib.ListN.{length, take, getD}
 use lib.Seq.{take-suc, take-all}
-use Rattle.scope.specs.Table.{word, countWord, slotAt}
+use Rattle.scope.specs.Table.{slotAt}
 use Rattle.scope.specs.Sound.{treeIn}
-use Rattle.scope.specs.Sums.{slotsInOrder, rankOf}
+use Rattle.scope.specs.Sums.{slotsInOrder}
 use Rattle.text_print.specs.Put.{laid, PutIn}
 use Rattle.text_print.specs.Line.{recordLine, recordRoom}
 use Rattle.text_print.proofs.Laid.{both}
 use Rattle.spelling.specs.Whole.{Whole}
-use Rattle.text_list.specs.List.{recordLines, rankLine}
-use Rattle.text_list.proofs.Slots.{slots-count, count-most, rank-at}
+use Rattle.in_order.specs.Listed.{InOrder}
+use Rattle.in_order.proofs.Slots.{listed-count, listed-is, listed-few}
+use Rattle.text_list.specs.List.{recordLines, allLines}
 
 lines-append : (t l r : List ℕ) → recordLines t (l ++ r) ≡ recordLines t l ++ recordLines t r
 unfolding recordLines
@@ -32,33 +33,34 @@ pub first-none : (t : List ℕ) (c : ℕ) (old : List ℕ) (at : ℕ) → FirstP
 unfolding recordLines laid
 first-none t c old at = record { put = record { holds = refl; place = sym (add-zero at) }; within = omega arith }
 
-module _ {t : List ℕ} {c : ℕ} (w : Whole t c) where
-  lines-more : (i : ℕ) → i < word t countWord
-      → recordLines t (take (i + 1) (slotsInOrder (treeIn t c)))
-      ≡ recordLines t (take i (slotsInOrder (treeIn t c))) ++ rankLine t (rankOf (i + 1) (treeIn t c))
-  unfolding rankLine recordLines
-  lines-more i h =
-      let l = slotsInOrder (treeIn t c) in
-      let k = getD l i 0 in
-      let q : i < length l = omega (arith, slots-count w) in
-      let e : take (i + 1) l ≡ take i l ++ (k ∷ []) = rw (add-one i, take-suc l i 0) in
-      rw (rank-at w i h)
-      (ap (recordLines t) e
-      ∙ lines-append t (take i l) (k ∷ [])
-      ∙ ap (λ (x : List ℕ). recordLines t (take i l) ++ x) (append-nil (recordLine k (slotAt t k))))
+module _ {t : List ℕ} {c : ℕ} {list : List ℕ} {n : ℕ} (o : InOrder t c list n) where
+  abbrev slots : List ℕ
+  slots = slotsInOrder (treeIn t c)
 
-  pub first-more : {old new new′ : List ℕ} {at p q : ℕ} (i : ℕ) → i < word t countWord → FirstPut t c old at new p i
-      → PutIn new p (rankLine t (rankOf (i + 1) (treeIn t c))) new′ q recordRoom → FirstPut t c old at new′ q (i + 1)
+  lines-more : (i : ℕ) → i < n
+      → recordLines t (take (i + 1) slots)
+      ≡ recordLines t (take i slots) ++ recordLine (getD list i 0) (slotAt t (getD list i 0))
+  unfolding recordLines
+  lines-more i h =
+      let k = getD list i 0 in
+      let e : take (i + 1) slots ≡ take i slots ++ (k ∷ []) =
+      rw (add-one i, listed-is o i h) (take-suc slots i 0 (omega (arith, h, listed-count o))) in
+      ap (recordLines t) e
+      ∙ lines-append t (take i slots) (k ∷ [])
+      ∙ ap (λ (x : List ℕ). recordLines t (take i slots) ++ x) (append-nil (recordLine k (slotAt t k)))
+
+  pub first-more : {old new new′ : List ℕ} {at p q : ℕ} (i : ℕ) → i < n → FirstPut t c old at new p i
+      → PutIn new p (recordLine (getD list i 0) (slotAt t (getD list i 0))) new′ q recordRoom
+      → FirstPut t c old at new′ q (i + 1)
   first-more i h x y =
       let z = both x y in
       record { put = rw (lines-more i h) (z .put); within = omega (arith, z .within) }
 
-  pub first-all : {old new : List ℕ} {at p : ℕ} (i : ℕ) → i ≡ word t countWord → FirstPut t c old at new p i
-      → PutIn old at (recordLines t (slotsInOrder (treeIn t c))) new p (recordRoom * c)
-  first-all i e x =
-      let l = slotsInOrder (treeIn t c) in
-      let q : length l ≤ i = omega (arith, slots-count w) in
-      record { put = rw (take-all i l q) at (x .put); within = omega (arith, x .within, count-most w) }
+  pub first-all : {old new : List ℕ} {at p : ℕ} → Whole t c → (i : ℕ) → i ≡ n → FirstPut t c old at new p i
+      → PutIn old at (allLines t c) new p (recordRoom * c)
+  first-all w i e x =
+      let q : length slots ≤ i = omega (arith, e, listed-count o) in
+      record { put = rw (take-all i slots q) at (x .put); within = omega (arith, x .within, e, listed-few w o) }
 
 -- more room does no harm
 pub wider : {a t b : List ℕ} {at p m n : ℕ} → PutIn a at t b p m → m ≤ n → PutIn a at t b p n

@@ -9,8 +9,6 @@ use Rattle.scope.specs.Sums.{soundGate, slotsInOrder}
 use Rattle.scope.specs.declared.answer.Answer.{Answer}
 use Rattle.scope.specs.declared.answer.Gate.{Gate}
 use Rattle.scope.specs.declared.answer.Gate.the-variants.{Shut, Open}
-use Rattle.scope.specs.declared.outcome.Rank.{Rank}
-use Rattle.scope.specs.declared.outcome.Rank.the-variants.{At, Past}
 use Rattle.text_print.specs.Line.{answerLine, recordLine, answerRoom, recordRoom}
 
 -- the lines of the records in some slots
@@ -18,18 +16,17 @@ unfoldable pub recordLines : List ℕ → List ℕ → List ℕ
 recordLines t [] = []
 recordLines t (k ∷ ks) = recordLine k (slotAt t k) ++ recordLines t ks
 
--- the line of the record of a rank, if there is one
-unfoldable pub rankLine : List ℕ → Rank → List ℕ
-rankLine t (At k) = recordLine k (slotAt t k)
-rankLine t (Past n) = []
+-- the lines of all records in the order of their keys
+abbrev pub allLines : List ℕ → ℕ → List ℕ
+allLines t c = recordLines t (slotsInOrder (treeIn t c))
 
 -- value is the count, more the root
 abbrev pub listAnswer : List ℕ → Answer
 listAnswer t = accepted (word t changeWord) (word t countWord) (word t rootWord) 0
 
--- then the records in the order of their keys
+-- then the records
 unfoldable pub listed : List ℕ → ℕ → List ℕ
-listed t c = answerLine (listAnswer t) ++ recordLines t (slotsInOrder (treeIn t c))
+listed t c = answerLine (listAnswer t) ++ allLines t c
 
 -- an unsound table is refused as check refuses it
 abbrev pub listing : List ℕ → Gate → List ℕ

@@ -1,6 +1,6 @@
 -- What each sum is at a slot, from those of its two sides; and how large it can be. Assumes nothing.
-use Prim.Native.Nat.{ℕ, suc, _+_, _-_, _*_, _≤_}
-use mathlib.Core.Path.{_≡_, sym, ap, _∙_}
+use Prim.Native.Nat.{ℕ, _+_, _-_, _*_, _≤_}
+use mathlib.Core.Path.{_≡_, sym, _∙_}
 use mathlib.Core.Bool.{Bool, true, false, not, cond, _&&_}
 use mathlib.Core.List.{List}
 use native.Mathlib.Omega.{arith}
@@ -11,15 +11,15 @@ use Rattle.scope.specs.Numbers.{mostSlots}
 use Rattle.scope.specs.Table.{slotAt}
 use Rattle.scope.specs.Fit.{stateOk, piecesOk, fitSlot}
 use Rattle.scope.specs.Tree.{Tree, leaf, node, size, trueHeight, over}
-use Rattle.scope.specs.Sound.{Spells, batchAt}
+use Rattle.scope.specs.Sound.{Spells}
 use Rattle.scope.specs.Sums.{totalOf}
 use Rattle.scope.specs.declared.slot.Slot.{Slot}
 use Rattle.fork.specs.declared.Fork.{Fork}
 use Rattle.fork.specs.Hangs.{Says}
 use Rattle.total.specs.Adding.{Adding, countedOf, totalOn}
-use Rattle.fork.proofs.Down.{Forked, said-at, says-leaf, says-fork}
+use Rattle.fork.proofs.Down.{Forked, sizes, said-at, says-leaf, says-fork}
 
-pub height-most : (T : Tree) → trueHeight T ≤ size T
+height-most : (T : Tree) → trueHeight T ≤ size T
 unfolding trueHeight size
 height-most leaf = omega arith
 height-most (node d a b l r) = omega (arith, height-most l, height-most r)
@@ -65,48 +65,37 @@ module _ {t : List ℕ} {more x : ℕ} {f : Fork} (d : Forked t more x f) where
 
     pub height-here : {r : ℕ} → r ≡ over a b → Says t x trueHeight r
     unfolding trueHeight
-    height-here e = says-fork trueHeight d (cc (e, said-at (d .on-left) trueHeight sa, said-at (d .on-right) trueHeight sb))
+    height-here e =
+        let l = said-at (d .on-left) trueHeight sa in
+        let r = said-at (d .on-right) trueHeight sb in
+        says-fork trueHeight d (cc (e, l, r))
 
 -- nothing is added at the empty link
 pub nothing-added : (t : List ℕ) (x sum K : ℕ) → x ≡ 0 → Says t x (totalOn sum K) sum
 unfolding totalOf
 nothing-added t x sum K e c T p = omega arith ∙ says-leaf t x (totalOn sum K) e c T p
 
--- adding up the pieces at a slot and on its two sides
-module _ {t : List ℕ} {more x sum : ℕ} {f : Fork} (g : Adding t more x sum) (d : Forked t more x f) where
-  -- the tree that hangs is the slot over its two sides
-  here : g .hangs .tree ≡ node (batchAt t x) (f .slot .lefth) (f .slot .righth) (d .on-left .tree) (d .on-right .tree)
-  here = d .whole (g .hangs .slots) (g .hangs .tree) (g .hangs .reached)
+-- adding up the pieces at a slot, which counts `own`, and on its two sides
+module _ {t : List ℕ} {more x sum : ℕ} {f : Fork} (g : Adding t more x sum) (d : Forked t more x f) (K : ℕ) {own : ℕ}
+    (eo : own ≡ countedOf K (f .slot .key) (f .slot .pieces)) where
+  own-few : own ≤ 1000000
+  own-few = omega (arith, eo, own-most (leb (f .slot .key) K) (f .slot .pieces), pieces-most (d .c) (f .slot) (d .fit))
 
-  sizes : size (g .hangs .tree) ≡ suc (size (d .on-left .tree) + size (d .on-right .tree))
-  unfolding size
-  sizes = ap size here ∙ omega arith
+  pub left-room : Adding t (more - 1) (f .left) (sum + own)
+  left-room = record { hangs = d .on-left; room = omega (arith, g .room, sizes (g .hangs) d, own-few) }
 
-  pub left-room : Adding t (more - 1) (f .left) sum
-  left-room = record { hangs = d .on-left; room = omega (arith, g .room, sizes) }
+  module _ {a : ℕ} (sa : Says t (f .left) (totalOn (sum + own) K) a) where
+    on-left : a ≡ sum + own + totalOf K (d .on-left .tree)
+    on-left = said-at (d .on-left) (totalOn (sum + own) K) sa
 
-  module _ (K : ℕ) {a : ℕ} (sa : Says t (f .left) (totalOn sum K) a) where
-    module _ {own : ℕ} (eo : own ≡ countedOf K (f .slot .key) (f .slot .pieces)) where
-      pub right-room : Adding t (more - 1) (f .right) (a + own)
-      right-room =
-          let l = d .on-left in
-          record {
-            hangs = d .on-right;
-            room = omega (
-              arith,
-              g .room,
-              sizes,
-              eo,
-              said-at l (totalOn sum K) sa,
-              total-most t (l .slots) K (f .left) (l .tree) (l .reached),
-              own-most (leb (f .slot .key) K) (f .slot .pieces),
-              pieces-most (d .c) (f .slot) (d .fit),
-            );
-          }
+    pub right-room : Adding t (more - 1) (f .right) a
+    right-room =
+        let l = d .on-left in
+        let few = total-most t (l .slots) K (f .left) (l .tree) (l .reached) in
+        record { hangs = d .on-right; room = omega (arith, g .room, sizes (g .hangs) d, own-few, on-left, few) }
 
-      pub total-here : {r : ℕ} → Says t (f .right) (totalOn (a + own) K) r → Says t x (totalOn sum K) r
-      unfolding totalOf
-      total-here sr =
-          let is : own ≡ countedOf K (slotAt t x .key) (slotAt t x .pieces) = rw (sym (d .slot)) eo in
-          says-fork (totalOn sum K) d
-          (omega (arith, is, said-at (d .on-left) (totalOn sum K) sa, said-at (d .on-right) (totalOn (a + own) K) sr))
+    pub total-here : {r : ℕ} → Says t (f .right) (totalOn a K) r → Says t x (totalOn sum K) r
+    unfolding totalOf
+    total-here sr =
+        let is : own ≡ countedOf K (slotAt t x .key) (slotAt t x .pieces) = rw (sym (d .slot)) eo in
+        says-fork (totalOn sum K) d (omega (arith, is, on-left, said-at (d .on-right) (totalOn a K) sr))

@@ -1,4 +1,4 @@
-// Sums over a sound table: the true height and the total, each by a walk down from the root to both sides of every slot.
+// Sums over a sound table: the true height and the total, each by a walk from the root to both sides of every slot.
 // A walk is two functions, at a slot and at a link, which may be empty. It starts at the root's slot: entered there,
 // the test of a link is compiled into the slot above it, and an empty link costs no call.
 use scope::Answer;
@@ -82,8 +82,8 @@ pub fn total_at(t: &[u32], more: usize, x: usize, key: u32, sum: u64) -> u64
     let f = fork::fork_at(t, x);
     let less = more - 1;
     let slot = f.slot;
-    let a = total_under(t, less, f.left, key, sum);
-    total_under(t, less, f.right, key, a + counted(slot, key))
+    let left = total_under(t, less, f.left, key, sum + counted(slot, key));
+    total_under(t, less, f.right, key, left)
 }
 
 // The same at a link, which may be empty.

@@ -1,4 +1,4 @@
--- How the walk ends: as `scope` defines it, and with numbers that lie in the table. Assumes nothing: these are statements.
+-- How the walk ends: as `scope` defines it, with numbers that lie in the table. Assumes nothing: these are statements.
 use Prim.Native.Nat.{ℕ, _≤_}
 use mathlib.Core.Path.{_≡_}
 use mathlib.Core.Bool.{cond}

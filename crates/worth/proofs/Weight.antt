@@ -38,11 +38,12 @@ gather : (X Y p q u v N M P Q g h B C R S : ℕ)
 gather X Y p q u v N M P Q g h B C R S = omega arith
 
 pub weight-node : (n above : ℕ) (d : Batch) (a b : ℕ) (l r : Tree)
-    → weightOf n above (node d a b l r) ≡ weightOf n a l + weightOf n b r + ownWeight a b (n - size (node d a b l r)) above
+    → weightOf n above (node d a b l r)
+    ≡ weightOf n a l + weightOf n b r + ownWeight a b (n - size (node d a b l r)) above
 unfolding weightOf ownWeight negOf posOf NEG POS BAL RBAL
 weight-node n above d a b l r =
-    gather ((n - size (node d a b l r)) * (over a b - above)) (above - over a b) (negOf n a l) (negOf n b r) (posOf a l) (posOf b r)
-    (NEG n l) (NEG n r) (POS l) (POS r) (gap a b) (gap a b - 1) (BAL l) (BAL r) (RBAL l) (RBAL r)
+    gather ((n - size (node d a b l r)) * (over a b - above)) (above - over a b)
+    (negOf n a l) (negOf n b r) (posOf a l) (posOf b r) (NEG n l) (NEG n r) (POS l) (POS r) (gap a b) (gap a b - 1) (BAL l) (BAL r) (RBAL l) (RBAL r)
 
 pub weight-leaf : (n above : ℕ) → weightOf n above leaf ≡ 0
 unfolding weightOf negOf posOf NEG POS BAL RBAL

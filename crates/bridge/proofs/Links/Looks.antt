@@ -7,7 +7,7 @@ use lib.Dec.{eqb}
 use Rattle.scope.proofs.Bools.{and-l, and-r}
 use Rattle.scope.specs.Numbers.{other}
 use Rattle.scope.specs.Table.{slotAt, son, register}
-use Rattle.scope.specs.Fit.{stateOk, piecesOk, linkOk, tailOk, fitSlot}
+use Rattle.scope.specs.Fit.{stateOk, piecesOk, linkOk, tailFits, fitSlot}
 use Rattle.scope.specs.Tree.{Batch, Tree}
 use Rattle.scope.specs.Sound.{batchAt, Spells}
 use Rattle.scope.specs.Rules.{seen, pair}
@@ -72,7 +72,7 @@ core a b p l r z e =
     }
 
 module _ (c : ℕ) (x : Slot) (e : fitSlot c x ≡ true) where
-  slot-core : Core (stateOk (x .state)) (not (eqb (x .key) 0)) (piecesOk (x .pieces)) (tailOk (x .last))
+  slot-core : Core (stateOk (x .state)) (not (eqb (x .key) 0)) (piecesOk (x .pieces)) (tailFits x)
   unfolding fitSlot
   slot-core =
       core _ _ _ (linkOk c (x .left) (x .lefth)) (linkOk c (x .right) (x .righth)) _ e

@@ -7,7 +7,7 @@ use native.Mathlib.Omega.{arith}
 use lib.Dec.{eqb}
 use Rattle.scope.proofs.Bools.{and-l, and-r}
 use Rattle.scope.specs.Table.{word, slotAt, withSlot, linkAt}
-use Rattle.scope.specs.Fit.{stateOk, piecesOk, linkOk, tailOk, fitSlot}
+use Rattle.scope.specs.Fit.{stateOk, piecesOk, linkOk, tailFits, fitSlot}
 use Rattle.scope.specs.Tree.{Batch, Tree, node, times, same}
 use Rattle.scope.specs.Sound.{Spells}
 use Rattle.scope.specs.Post.{recordOk}
@@ -35,7 +35,7 @@ module _ (c : ℕ) (x : Slot) (e : fitSlot c x ≡ true) where
 
   links : (inRange && left-ok && right-ok) ≡ true
   unfolding fitSlot
-  links = and-l _ (tailOk (x .last)) e
+  links = and-l _ (tailFits x) e
 
   pub record-ok : recordOk (x .key) (x .pieces) (x .state) ≡ true
   unfolding recordOk
@@ -59,7 +59,7 @@ module _ (c : ℕ) (x : Slot) (e : fitSlot c x ≡ true) where
         and-r some-key (piecesOk (from .pieces)) (and-l _ _ r),
         and-r inRange left-ok (and-l (inRange && left-ok) right-ok links),
         and-r (inRange && left-ok) right-ok links,
-        and-r (inRange && left-ok && right-ok) (tailOk (x .last)) e,
+        and-r (inRange && left-ok && right-ok) (tailFits x) e,
       )
 
   other-key : (key pieces state : ℕ) → recordOk key pieces state ≡ true → recordOk (x .key) pieces state ≡ true

@@ -4,7 +4,8 @@ use native.Mathlib.Omega.{arith}
 use borrow.Author.Needs.{needs}
 use borrow.Fn.Kinds.{In}
 use borrow.Fn.PlainCycle.{Measures, is, falls, and}
-use Rattle.sound.proofs.Along.{Along, along-start, along-spent, along-refused, along-left, along-spoiled, along-less, along-end, along-right}
+use Rattle.sound.proofs.Along.{Along, along-start, along-spent, along-refused, along-left}
+use Rattle.sound.proofs.Along.{along-spoiled, along-less, along-end, along-right}
 use Rattle.sound.proofs.Steps.{at-end, is-left}
 use Rattle.sound.proofs.scan.Reads as scan
 use Rattle.sound.proofs.scan.Kinds as scan-kinds
@@ -86,21 +87,22 @@ pub +scan+under-spec : {M : Type 1} → statement M
     let w = c .before .before .before .before .before in
     let v = w .before .before .before .before .before .loop .inv in
     let o = rw (w .left .given .1) at (w .before .before .visit .ensures) in
-    along-end v o _ _ (c .before .before .under .ensures) (c .before .if2 .left)
-    (w .before .before .before .before .if1 .left) (c .if3 .taken))
+    let some = w .before .before .before .before .if1 .left in
+    along-end v o _ _ (c .before .before .under .ensures) (c .before .if2 .left) some (c .if3 .taken))
     -- loop-less
     (λ c.
     let w = c .before .before .before .before .before in
     let v = w .before .before .before .before .before .loop .inv in
     let o = rw (w .left .given .1) at (w .before .before .visit .ensures) in
-    along-less v o _ _ (c .before .before .under .ensures) (c .before .if2 .left) (w .before .before .before .before .if1 .left))
+    let some = w .before .before .before .before .if1 .left in
+    along-less v o _ _ (c .before .before .under .ensures) (c .before .if2 .left) some)
     -- loop-again
     (λ c.
     let w = c .before .before .before .before .before in
     let v = w .before .before .before .before .before .loop .inv in
     let o = rw (w .left .given .1) at (w .before .before .visit .ensures) in
-    along-right v o _ _ (c .before .before .under .ensures) (c .before .if2 .left)
-    (w .before .before .before .before .if1 .left) (c .if3 .left)))
+    let some = w .before .before .before .before .if1 .left in
+    along-right v o _ _ (c .before .before .under .ensures) (c .before .if2 .left) some (c .if3 .left)))
     λ t. under-lts.spec
     (scan-below t, scan.Post)
     (under-at t)

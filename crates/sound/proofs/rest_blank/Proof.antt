@@ -30,7 +30,8 @@ loop-again : tie.Need-loop-again Inv-loop μ-loop
 loop-again c =
     let past = c .past .ensures in
     let here = c .before .before .before .before .loop .inv in
-    (omega (arith, past .further), settled-past _ _ (here .1) (sym (c .before .before .settled .ensures) ∙ c .before .if1 .taken) past)
+    let settled = sym (c .before .before .settled .ensures) ∙ c .before .if1 .taken in
+    (omega (arith, past .further), settled-past _ _ (here .1) settled past)
 
 returns : tie.Need-returns Inv-loop μ-loop
 returns c = (

@@ -75,63 +75,73 @@ same-length c = search needs
 
 returns : tie.Need-returns
 unfolding wishOf
-returns c = done _ _ _ (ap wishOf (c .before .before .before .before .before .command .given .1)) (c .before .before .post .ensures .0) (c .before .before .post .ensures .1)
+returns c =
+    let b = c .before .before in
+    done _ _ _ (ap wishOf (b .before .before .before .command .given .1)) (b .post .ensures)
 
 same-length-2 : tie.Need-same-length-2
 same-length-2 c = search needs
 
 returns-2 : tie.Need-returns-2
 unfolding wishOf
-returns-2 c = done _ _ _ (ap wishOf (c .before .before .before .before .before .command2 .given .1)) (c .before .before .amend .ensures .0) (c .before .before .amend .ensures .1)
+returns-2 c =
+    let b = c .before .before in
+    done _ _ _ (ap wishOf (b .before .before .before .command2 .given .1)) (b .amend .ensures)
 
 same-length-3 : tie.Need-same-length-3
 same-length-3 c = search needs
 
 returns-3 : tie.Need-returns-3
 unfolding wishOf
-returns-3 c = done _ _ _ (ap wishOf (c .before .before .before .before .before .command3 .given .1)) (c .before .before .drop .ensures .0) (c .before .before .drop .ensures .1)
+returns-3 c =
+    let b = c .before .before in
+    done _ _ _ (ap wishOf (b .before .before .before .command3 .given .1)) (b .drop .ensures)
 
 same-length-4 : tie.Need-same-length-4
 same-length-4 c = search needs
 
 returns-4 : tie.Need-returns-4
 unfolding wishOf
-returns-4 c = done _ _ _ (ap wishOf (c .before .before .before .command4 .given .1)) (c .find .ensures) refl
+returns-4 c = done _ _ _ (ap wishOf (c .before .before .before .command4 .given .1)) (c .find .ensures)
 
 same-length-5 : tie.Need-same-length-5
 same-length-5 c = search needs
 
 returns-5 : tie.Need-returns-5
 unfolding wishOf
-returns-5 c = done _ _ _ (ap wishOf (c .before .before .before .command5 .given .1)) (c .rank .ensures) refl
+returns-5 c = done _ _ _ (ap wishOf (c .before .before .before .command5 .given .1)) (c .rank .ensures)
 
 same-length-6 : tie.Need-same-length-6
 same-length-6 c = search needs
 
 returns-6 : tie.Need-returns-6
 unfolding wishOf
-returns-6 c = done _ _ _ (ap wishOf (c .before .before .before .command6 .given .1)) (c .total .ensures) refl
+returns-6 c = done _ _ _ (ap wishOf (c .before .before .before .command6 .given .1)) (c .total .ensures)
 
 same-length-7 : tie.Need-same-length-7
 same-length-7 c = search needs
 
 returns-7 : tie.Need-returns-7
 unfolding wishOf
-returns-7 c = done _ _ _ (ap wishOf (c .before .before .enum-told .given .1)) (c .worth .ensures) refl
+returns-7 c = done _ _ _ (ap wishOf (c .before .before .enum-told .given .1)) (c .worth .ensures)
 
 same-length-8 : tie.Need-same-length-8
 same-length-8 c = search needs
 
 returns-8 : tie.Need-returns-8
 unfolding wishOf
-returns-8 c = done _ _ _ (ap wishOf (c .before .before .before .before .before .command7 .given .1)) (c .before .before .fire .ensures .0) (c .before .before .fire .ensures .1)
+returns-8 c =
+    let b = c .before .before in
+    done _ _ _ (ap wishOf (b .before .before .before .command7 .given .1)) (b .fire .ensures)
 
 same-length-9 : tie.Need-same-length-9
 same-length-9 c = search needs
 
 returns-9 : tie.Need-returns-9
 unfolding wishOf
-returns-9 c = done _ _ _ (ap wishOf (c .before .before .before .before .before .command8 .given .1)) (c .before .before .tidy .ensures .0) (c .before .before .tidy .ensures .1)
+returns-9 c =
+    let b = c .before .before in
+    done _ _ _ (ap wishOf (b .before .before .before .command8 .given .1)) (b .tidy .ensures)
 
 returns-10 : tie.Need-returns-10
 unfolding wishOf replyOf tableAfter

@@ -23,7 +23,9 @@ same-length c = search needs
 
 returns : tie.Need-returns
 unfolding replyText
-returns c = rw (c .before .before .before .before .before .reply .given .1) (wider (c .before .before .put-answer .ensures) (omega arith))
+returns c =
+    rw (c .before .before .before .before .before .reply .given .1)
+    (wider (c .before .before .put-answer .ensures) (omega arith))
 
 same-length-2 : tie.Need-same-length-2
 same-length-2 c = search needs

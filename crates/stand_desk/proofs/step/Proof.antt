@@ -23,7 +23,8 @@ returns : tie.Need-returns
 returns c =
     let p = c .before .before .before .before .before .before .before .before .parse .ensures in
     let o = c .before .before .before .before .before .before .before .carry-out in
-    (stepped _ _ _ _ _ p (o .ensures .0) (o .ensures .1) (o .kept .0) (c .before .before .put-reply .ensures), left _ _ _ _ p (o .ensures .1))
+    let e = o .ensures in
+    (stepped _ _ _ _ _ p (e .0) (e .1) (o .kept .0) (c .before .before .put-reply .ensures), left _ _ _ _ p (e .1))
 
 pub step-spec : {M : Type 1} → statement M
 step-spec =

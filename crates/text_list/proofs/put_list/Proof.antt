@@ -34,7 +34,8 @@ same-length c = search needs
 returns : tie.Need-returns
 unfolding listText
 returns c =
-    rw (sym (c .before .before .before .before .before .before .before .before .enter-sound .ensures), c .before .before .before .before .before .before .why .given .1)
+    let b = c .before .before .before .before .before .before in
+    rw (sym (b .before .before .enter-sound .ensures), b .why .given .1)
     (wider (rw (c .before .before .before .refuse .ensures) at (c .before .before .put-answer .ensures)) (omega arith))
 
 same-length-2 : tie.Need-same-length-2
@@ -43,8 +44,10 @@ same-length-2 c = search needs
 returns-2 : tie.Need-returns-2
 unfolding listText
 returns-2 c =
-    let w = opened _ _ _ (c .before .before .before .before .before .before .before .enter-sound .ensures) (c .before .before .before .before .before .c .given .1) in
-    rw (sym (c .before .before .before .before .before .before .before .enter-sound .ensures), c .before .before .before .before .before .c .given .1) (wider (c .before .before .put-listed .ensures) (omega (arith, w .sized .room)))
+    let b = c .before .before .before .before .before in
+    let w = opened _ _ _ (b .before .before .enter-sound .ensures) (b .c .given .1) in
+    rw (sym (b .before .before .enter-sound .ensures), b .c .given .1)
+    (wider (c .before .before .put-listed .ensures) (omega (arith, w .sized .room)))
 
 pub put-list-spec : {M : Type 1} → statement M
 put-list-spec =

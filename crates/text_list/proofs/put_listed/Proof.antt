@@ -19,7 +19,9 @@ same-length c = search needs
 
 returns : tie.Need-returns
 unfolding listed
-returns c = both (rw (c .before .before .before .before .before .before .before .answer .ensures) at (c .before .before .before .before .before .before .put-answer .ensures)) (c .before .before .put-records .ensures)
+returns c =
+    let b = c .before .before .before .before .before .before in
+    both (rw (b .before .answer .ensures) at (b .put-answer .ensures)) (c .before .before .put-records .ensures)
 
 pub put-listed-spec : {M : Type 1} → statement M
 put-listed-spec =

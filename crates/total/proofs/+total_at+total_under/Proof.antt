@@ -40,10 +40,10 @@ under-below t = and 1 under-kinds.ps (falls 1 under-kinds.ps _<_ μ-under t) und
 sides : (t : ℕ) (c : at-lts.After-fork-at (
   fork-at-reads.Asked,
   fork-at-reads.Learnt,
-  under-below t,
-  under.Post,
   counted-reads.Asked,
   counted-reads.Learnt,
+  under-below t,
+  under.Post,
 ) (at-now t) at.Post)
     → let start = c .before .before .args in Forked (start .t .now) (start .more) (start .x) (c .fork-at .result)
 sides t c =
@@ -54,10 +54,10 @@ pub +total-at+total-under-spec : {M : Type 1} → statement M
 +total-at+total-under-spec = close μ-at μ-under (λ t. at-lts.spec (
   fork-at-reads.Asked,
   fork-at-reads.Learnt,
-  under-below t,
-  under.Post,
   counted-reads.Asked,
   counted-reads.Learnt,
+  under-below t,
+  under.Post,
 )
     (at-now t)
     at.Post
@@ -65,30 +65,30 @@ pub +total-at+total-under-spec : {M : Type 1} → statement M
     (λ c κs. in-reach (c .before .pre .1 .1 .hangs) (omega (arith, c .before .pre .1 .0)))
     -- sub-less
     (λ c. sides t c .some)
-    -- total-under-requires
-    (λ c κs.
-    let v = c .before in
-    let d = sides t v in
-    (omega (arith, v .before .before .pre .0, d .some), left-room (v .before .before .pre .1 .1) d))
     -- counted-requires
     (λ c κs. search needs)
     -- add-total-under
     (λ c.
-    let v = c .before .before .before in
-    let room = right-room (v .before .before .pre .1 .1) (sides t v) _ (c .before .total-under .ensures) (c .counted .ensures) in
-    omega (arith, room .room))
+    let v = c .before .before in
+    omega (arith, left-room (v .before .before .pre .1 .1) (sides t v) _ (c .counted .ensures) .room))
+    -- total-under-requires
+    (λ c κs.
+    let v = c .before .before in
+    let d = sides t v in
+    let start = v .before .before in
+    (omega (arith, start .pre .0, d .some), left-room (start .pre .1 .1) d _ (c .counted .ensures)))
     -- total-under-requires-2
     (λ c κs.
     let v = c .before .before .before in
     let d = sides t v in
     let start = v .before .before in
-    let room = right-room (start .pre .1 .1) d _ (c .before .total-under .ensures) (c .counted .ensures) in
+    let room = right-room (start .pre .1 .1) d _ (c .before .counted .ensures) (c .total-under .ensures) in
     (omega (arith, start .pre .0, d .some), room))
     -- returns
     (λ c.
     let v = c .before .before .before .before in
-    total-here (v .before .before .pre .1 .1) (sides t v) _ (c .before .before .total-under .ensures) (c .before .counted .ensures)
-    (c .total-under2 .ensures)))
+    total-here (v .before .before .pre .1 .1) (sides t v) _ (c .before .before .counted .ensures)
+    (c .before .total-under .ensures) (c .total-under2 .ensures)))
     λ t. under-lts.spec
     (at-below t, at.Post)
     (under-now t)

@@ -35,18 +35,19 @@ returns c =
 returns-2 : tie.Need-returns-2
 unfolding findAnswer
 returns-2 c =
-    let b3 = c .before .before .before in
-    let b = b3 in
-    simp (
-      sym (b .before .before .enter .ensures),
-      b .c .given .1,
-      sym (c .before .search .ensures .is),
-      sym
-          (c .found .ensures),
-    ) (refl, refl)
+    let b = c .before .before .before in
+    let walked = c .before .search .ensures .is in
+    simp (sym (b .before .before .enter .ensures), b .c .given .1, sym walked, sym (c .found .ensures)) (refl, refl)
 
 pub find-spec : {M : Type 1} → statement M
 find-spec =
     tie.close
-    (tie.spec enter-requires enum-known-why refuse-requires enum-known-c search-requires found-requires returns
+    (tie.spec
+    enter-requires
+    enum-known-why
+    refuse-requires
+    enum-known-c
+    search-requires
+    found-requires
+    returns
     returns-2)

@@ -22,8 +22,10 @@ enum-known-w : tie.Need-enum-known-w
 enum-known-w c = search needs
 
 slot-at-requires : tie.Need-slot-at-requires
-slot-at-requires c κs = let i = rw (c .before .w .given .1) at (c .before .before .before .before .pre .1) in record
-    { first = omega arith; whole = omega arith }
+slot-at-requires c κs =
+    let b = c .before in
+    let i = rw (b .w .given .1) at (b .before .before .before .pre .1) in
+    record { first = omega arith; whole = omega arith }
 
 change-requires : tie.Need-change-requires
 change-requires c κs = search needs
@@ -54,26 +56,34 @@ returns-2 c = simp (c .before .enum-told2 .given .1, sym (c .refuse2 .ensures))
 returns-3 : tie.Need-returns-3
 unfolding foundIn
 returns-3 c =
-    let b3 = c .before .before .before in
-    let b4 = b3 .before in
-    let b5 = b4 .before in
-    let b6 = b5 .before in
-    let b8 = b6 .before .before in
+    let l = c .before .before .before .before in
     simp (
-      b8 .w .given .1,
-      sym (b6 .slot-at .ensures),
-      sym (b5 .change .ensures),
-      sym (b4 .long .ensures),
-      sym
-          (b3 .long2 .ensures),
+      l .before .before .before .before .w .given .1,
+      sym (l .before .before .slot-at .ensures),
+      sym (l .before .change .ensures),
+      sym (l .long .ensures),
+      sym (c .before .before .before .long2 .ensures),
       sym (c .before .before .size .ensures),
       sym (c .before .long3 .ensures),
-      sym
-          (c .accept .ensures),
+      sym (c .accept .ensures),
     )
 
 pub found-spec : {M : Type 1} → statement M
 found-spec =
     tie.close
-    (tie.spec enum-told refuse-requires enum-told-2 refuse-requires-2 enum-known-w slot-at-requires change-requires
-    long-requires long-requires-2 size-requires long-requires-3 accept-requires returns returns-2 returns-3)
+    (tie.spec
+    enum-told
+    refuse-requires
+    enum-told-2
+    refuse-requires-2
+    enum-known-w
+    slot-at-requires
+    change-requires
+    long-requires
+    long-requires-2
+    size-requires
+    long-requires-3
+    accept-requires
+    returns
+    returns-2
+    returns-3)

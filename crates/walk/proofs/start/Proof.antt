@@ -27,9 +27,9 @@ accept-requires c κs = search needs
 
 returns : tie.Need-returns
 returns c =
-    let b3 = c .before .before .before in
-    let b5 = b3 .before .before in
-    let e = sym (start-shut (now (b5 .args .t)) (sym (b3 .capacity .ensures) ∙ c .before .enum-told .given .1)) in
+    let b = c .before in
+    let t = now (b .before .before .before .before .args .t) in
+    let e = sym (start-shut t (sym (b .before .before .capacity .ensures) ∙ b .enum-told .given .1)) in
     (c .refuse .ensures ∙ ap (λ (d : Done). d .answer) e, ap (λ (d : Done). d .words) e)
 
 same-length : tie.Need-same-length
@@ -37,15 +37,22 @@ same-length c = search needs
 
 returns-2 : tie.Need-returns-2
 returns-2 c =
-    let b3 = c .before .before .before in
-    let b5 = b3 .before .before in
-    let b7 = b5 .before .before in
-    let b9 = b7 .before .before in
-    let e = sym (start-open (now (b9 .args .t)) _ (sym (b7 .capacity .ensures) ∙ b5 .enum-told2 .given .1)) in
-    (c .accept .ensures ∙ ap (λ (d : Done). d .answer) e, b3 .clear .ensures ∙ ap (λ (d : Done). d .words) e)
+    let b = c .before .before .before .before .before in
+    let t = now (b .before .before .before .before .args .t) in
+    let e = sym (start-open t _ (sym (b .before .before .capacity .ensures) ∙ b .enum-told2 .given .1)) in
+    let cleared = c .before .before .before .clear .ensures in
+    (c .accept .ensures ∙ ap (λ (d : Done). d .answer) e, cleared ∙ ap (λ (d : Done). d .words) e)
 
 pub start-spec : {M : Type 1} → statement M
 start-spec =
     tie.close
-    (tie.spec capacity-requires enum-told refuse-requires enum-told-2 clear-requires accept-requires returns
-    same-length returns-2)
+    (tie.spec
+    capacity-requires
+    enum-told
+    refuse-requires
+    enum-told-2
+    clear-requires
+    accept-requires
+    returns
+    same-length
+    returns-2)

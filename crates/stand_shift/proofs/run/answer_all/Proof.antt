@@ -3,6 +3,7 @@ use Prim.Native.Nat.{_*_, _-_, _≤_}
 use mathlib.Core.Path.{_≡_, ap}
 use native.Mathlib.Omega.{arith}
 use lib.ListN.{length}
+use Rattle.stand_desk.specs.Desk.{deskWords}
 use Rattle.stand_shift.proofs.Telling.{Told, told-none, told-more, told-piece, told-all}
 use Rattle.stand_shift.proofs.run.answer_all.Statement.{statement}
 use Rattle.stand_shift.proofs.run.answer_all.Tie as tie
@@ -10,7 +11,7 @@ use Rattle.stand_shift.proofs.run.answer_all.Tie as tie
 abbrev Inv-loop : tie.InvT-loop
 Inv-loop input t₀ out₀ from₀ sent₀ t out from sent =
     Told input t from sent × (sent ≤ 16384 * from)
-    × (length out ≡ length out₀) × (length t ≡ 124) × (length t ≡ length t₀)
+    × (length out ≡ length out₀) × (length t ≡ deskWords) × (length t ≡ length t₀)
 
 abbrev μ-loop : tie.MeasureT-loop
 μ-loop input t₀ out₀ from₀ sent₀ t out from sent = length input - from
@@ -26,9 +27,8 @@ fill-requires c κs = omega arith
 hand-on-requires : tie.Need-hand-on-requires Inv-loop μ-loop
 hand-on-requires c κs =
     let a = c .before .before .before .before .before .fill .ensures .0 in
-    let i = c .before .before .before .before .before .before .before .before .before .loop .inv in
-    let p = c .before .before .before .before .before .before .before .before .before .before .before .before .before .pre in
-    (omega arith, told-piece (i .0) a (p .0))
+    let b = c .before .before .before .before .before .before .before .before .before in
+    (omega arith, told-piece (b .loop .inv .0) a (b .before .before .before .before .pre .0))
 
 add-sent : tie.Need-add-sent Inv-loop μ-loop
 add-sent c = omega arith

@@ -1,25 +1,22 @@
--- The slots of a sound table lie in it. Assumes nothing.
-use Prim.Native.Nat.{ℕ, zero, suc, _+_, _-_, _≤_, _<_}
-use mathlib.Core.Path.{_≡_, refl, ap, _∙_}
-use mathlib.Core.Bool.{Bool, true, false, cond}
+-- The slots that are listed lie in the table. Assumes nothing.
+use Prim.Native.Nat.{ℕ, zero, suc, _≤_, _<_}
+use mathlib.Core.Path.{_≡_, sym, ap, _∙_}
 use mathlib.Core.List.{List, [], _∷_, _++_}
 use native.Mathlib.Omega.{arith}
 use lib.ListN.{length, getD}
-use lib.Dec.{leb}
-use borrow.Author.Tests.{leb-true, le-leb}
-use Rattle.scope.proofs.Bools.{never}
+use lib.Seq.{getD-take, length-take-le}
 use Rattle.scope.specs.Table.{word, rootWord, countWord, slotAt, InTable}
 use Rattle.scope.specs.Tree.{Batch, Tree, leaf, node, size, inOrder}
 use Rattle.scope.specs.Sound.{Spells, treeIn}
-use Rattle.scope.specs.Sums.{slotsInOrder, pick, rankOf}
-use Rattle.scope.specs.declared.outcome.Rank.the-variants.{At, Past}
+use Rattle.scope.specs.Sums.{slotsInOrder}
 use Rattle.spelling.proofs.Laws.{in-table, fit-left, fit-right, header-root, header-count}
 use Rattle.spelling.specs.Whole.{Whole}
 use Rattle.spelling.proofs.Spell.{tree-in}
-use Rattle.rank.proofs.Pick.{order-node, order-size}
+use Rattle.fork.proofs.Order.{order-node, order-size}
+use Rattle.in_order.specs.Listed.{InOrder}
 
 -- each of some slots is one of c
-unfoldable pub Within : ℕ → List ℕ → Type 0
+unfoldable Within : ℕ → List ℕ → Type 0
 Within c [] = Unit {0}
 Within c (k ∷ ks) = (1 ≤ k) × (k ≤ c) × Within c ks
 
@@ -42,7 +39,16 @@ spelled-within t c x (node d a b l r) h p =
     let left = spelled-within t c (slotAt t x .left) l (fit-left c (slotAt t x) (p .fit) .0) (p .left) in
     let right = spelled-within t c (slotAt t x .right) r (fit-right c (slotAt t x) (p .fit) .0) (p .right) in
     rw (order-node d a b l r)
-    (within-append c (slotsInOrder l) (d .slot ∷ slotsInOrder r) left (omega (arith, e, p .there), omega (arith, e), right))
+    (within-append c (slotsInOrder l) (d .slot ∷ slotsInOrder r) left
+    (omega (arith, e, p .there), omega (arith, e), right))
+
+-- a list in order
+module _ {t : List ℕ} {c : ℕ} {list : List ℕ} {n : ℕ} (o : InOrder t c list n) where
+  pub listed-count : n ≡ length (slotsInOrder (treeIn t c))
+  listed-count = sym (length-take-le n list (o .within)) ∙ ap length (o .is)
+
+  pub listed-is : (i : ℕ) → i < n → getD list i 0 ≡ getD (slotsInOrder (treeIn t c)) i 0
+  listed-is i lt = sym (getD-take n list i 0 lt) ∙ ap (λ (l : List ℕ). getD l i 0) (o .is)
 
 module _ {t : List ℕ} {c : ℕ} (w : Whole t c) where
   slots-within : Within c (slotsInOrder (treeIn t c))
@@ -51,31 +57,14 @@ module _ {t : List ℕ} {c : ℕ} (w : Whole t c) where
       (spelled-within t c (word t rootWord) (w .sound .tree) (header-root c t (w .sound .header)) (w .sound .reached))
 
   -- there are as many as the header counts
-  pub slots-count : length (slotsInOrder (treeIn t c)) ≡ word t countWord
+  slots-count : length (slotsInOrder (treeIn t c)) ≡ word t countWord
   slots-count = order-size (treeIn t c) ∙ ap size (tree-in t c (w .sound)) ∙ w .sound .count
 
-  pub count-most : word t countWord ≤ c
-  count-most = header-count c t (w .sound .header)
+  module _ {list : List ℕ} {n : ℕ} (o : InOrder t c list n) where
+    pub listed-few : n ≤ c
+    listed-few = omega (arith, listed-count o, slots-count, header-count c t (w .sound .header))
 
-  -- a rank up to there has a slot of the table
-  pub rank-at : (i : ℕ) → i < word t countWord → rankOf (i + 1) (treeIn t c) ≡ At (getD (slotsInOrder (treeIn t c)) i 0)
-  unfolding rankOf pick
-  rank-at i h =
-      let l = slotsInOrder (treeIn t c) in
-      let q : i + 1 ≤ length l = omega (arith, slots-count) in
-      let e : i + 1 - 1 ≡ i = omega arith in
-      rw (le-leb (i + 1) (length l) q, e)
-
-  pub rank-in-table : {k : ℕ} (r : ℕ) → 1 ≤ r → At k ≡ rankOf r (treeIn t c) → InTable t k
-  unfolding rankOf pick
-  rank-in-table {k} r p e = go (leb r (length l)) refl e
-    where
-      l : List ℕ
-      l = slotsInOrder (treeIn t c)
-
-      go : (b : Bool) → leb r (length l) ≡ b → At k ≡ cond b (At (getD l (r - 1) 0)) (Past (length l)) → InTable t k
-      go true q e =
-          let z : k ≡ getD l (r - 1) 0 = cc in
-          let x = within-at c l (r - 1) slots-within (omega (arith, leb-true r (length l) q)) in
-          in-table k (w .sized) (omega (arith, z)) (omega (arith, z))
-      go false q e = never cc
+    pub listed-slot : (i : ℕ) → i < n → InTable t (getD list i 0)
+    listed-slot i lt =
+        let k = within-at c (slotsInOrder (treeIn t c)) i slots-within (omega (arith, listed-count o, lt)) in
+        in-table (getD list i 0) (w .sized) (omega (arith, listed-is o i lt)) (omega (arith, listed-is o i lt))

@@ -1,0 +1,3 @@
+-- Laws of the walk in key order.
+pub mod Walks
+pub mod Slots
