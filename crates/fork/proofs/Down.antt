@@ -13,7 +13,7 @@ use Rattle.spelling.proofs.Laws.{in-table, fit-left, fit-right, header-root, he
 use Rattle.spelling.specs.Whole.{Whole}
 use Rattle.spelling.proofs.Spell.{unique, tree-in}
 use Rattle.fork.specs.declared.Fork.{Fork}
-use Rattle.fork.specs.Hangs.{Hangs, Says, forkAt}
+use Rattle.fork.specs.Hangs.{FewHang, Says, forkAt}
 
 -- the slot at link x with what hangs below it
 pub record Forked (t : List ℕ) (more x : ℕ) (f : Fork) : Type 0 where
@@ -22,19 +22,19 @@ pub record Forked (t : List ℕ) (more x : ℕ) (f : Fork) : Type 0 where
   pub c : ℕ
   pub slot : f .slot ≡ slotAt t x
   pub fit : fitSlot c (f .slot) ≡ true
-  pub on-left : Hangs t (more - 1) (f .left)
-  pub on-right : Hangs t (more - 1) (f .right)
+  pub on-left : FewHang t (more - 1) (f .left)
+  pub on-right : FewHang t (more - 1) (f .right)
   pub few : size (on-left .tree) + size (on-right .tree) < more
   pub whole : (c : ℕ) (T : Tree) → Spells t c x T
       → T ≡ node (batchAt t x) (f .slot .lefth) (f .slot .righth) (on-left .tree) (on-right .tree)
 
-module _ {t : List ℕ} {more x : ℕ} (h : Hangs t more x) (ne : x ≡ 0 → ⊥) where
+module _ {t : List ℕ} {more x : ℕ} (h : FewHang t more x) (ne : x ≡ 0 → ⊥) where
   -- the slot lies in the table
   pub in-reach : InTable t x
   in-reach = in-table x (h .sized) (omega arith) (h .link)
 
   -- a tree with fewer slots at a link below
-  abbrev below : (S : Tree) (k : ℕ) → k ≤ h .slots → Spells t (h .slots) k S → size S ≤ more - 1 → Hangs t (more - 1) k
+  abbrev below : (S : Tree) (k : ℕ) → k ≤ h .slots → Spells t (h .slots) k S → size S ≤ more - 1 → FewHang t (more - 1) k
   below S k le p few =
       record {
         slots = h .slots;
@@ -84,7 +84,7 @@ pub says-leaf : {A : Type 0} (t : List ℕ) (x : ℕ) (f : Tree → A) → x ≡
 says-leaf t x f e c T p = ap f (sym (at-leaf t c x e T p))
 
 -- what a walk of a hanging tree said
-pub said-at : {A : Type 0} {t : List ℕ} {more x : ℕ} (h : Hangs t more x) (f : Tree → A) {r : A} → Says t x f r
+pub said-at : {A : Type 0} {t : List ℕ} {more x : ℕ} (h : FewHang t more x) (f : Tree → A) {r : A} → Says t x f r
     → r ≡ f (h .tree)
 said-at h f s = s (h .slots) (h .tree) (h .reached)
 
@@ -95,14 +95,14 @@ pub says-fork : {A : Type 0} {t : List ℕ} {more x : ℕ} {f : Fork} (g : Tree 
 says-fork g d e c T p = e ∙ ap g (sym (d .whole c T p))
 
 -- what hangs at a fork are its slot and its two sides
-pub sizes : {t : List ℕ} {more x : ℕ} {f : Fork} (h : Hangs t more x) (d : Forked t more x f)
+pub sizes : {t : List ℕ} {more x : ℕ} {f : Fork} (h : FewHang t more x) (d : Forked t more x f)
     → size (h .tree) ≡ suc (size (d .on-left .tree) + size (d .on-right .tree))
 unfolding size
 sizes h d = ap size (d .whole (h .slots) (h .tree) (h .reached))
 
 -- the tree of a sound table hangs at its root, as the code reads it
 module _ {t : List ℕ} {c x : ℕ} (w : Whole t c) (ex : x ≡ word t rootWord) where
-  pub rooted : {n : ℕ} → n ≡ word t countWord → Hangs t n x
+  pub rooted : {n : ℕ} → n ≡ word t countWord → FewHang t n x
   rooted en = rw (en, ex) (record {
     slots = c;
     sized = w .sized;

@@ -10,7 +10,7 @@ use Rattle.spelling.specs.Ready.{Sized}
 use Rattle.fork.specs.declared.Fork.{Fork}
 
 -- a tree of at most `more` slots hangs at link x
-pub record Hangs (t : List ℕ) (more x : ℕ) : Type 0 where
+pub record FewHang (t : List ℕ) (more x : ℕ) : Type 0 where
   pub slots : ℕ
   pub sized : Sized t slots
   pub link : x ≤ slots

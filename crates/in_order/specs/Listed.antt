@@ -6,11 +6,11 @@ use lib.ListN.{length, take}
 use Rattle.scope.specs.Tree.{size}
 use Rattle.scope.specs.Sound.{treeIn}
 use Rattle.scope.specs.Sums.{slotsInOrder}
-use Rattle.fork.specs.Hangs.{Hangs, Says}
+use Rattle.fork.specs.Hangs.{FewHang, Says}
 
 -- a tree hangs at link x, and a list has room for its slots from the place `at` on
 pub record Roomy (t : List ℕ) (more x : ℕ) (list : List ℕ) (at : ℕ) : Type 0 where
-  pub hangs : Hangs t more x
+  pub hangs : FewHang t more x
   pub room : at + size (hangs .tree) ≤ length list
 
 -- the slots that hang at link x are listed from the place `at` up to n, behind what stood before

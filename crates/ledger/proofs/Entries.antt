@@ -5,7 +5,7 @@ use mathlib.Core.Bool.{false, cond}
 use mathlib.Core.Option.{Option, none, some}
 use mathlib.Core.List.{List, [], _∷_, _++_, map, map-append, append-nil}
 use native.Mathlib.Omega.{arith}
-use lib.ListN.{length, length-map, length-append}
+use lib.ListN.{length, length-append}
 use lib.Dec.{eqb, ltb}
 use borrow.Author.Tests.{eq-eqb, ne-eqb, eqb-true, ltb-true, ltb-false, le-ltb}
 use Rattle.scope.proofs.Bools.{by-bool}
@@ -80,10 +80,6 @@ unfolding totalOf inOrder sumTo
 total-sum K leaf = refl
 total-sum K (node d a b l r) =
     omega (arith, total-sum K l, total-sum K r, ap (sumTo K) (entries-node d a b l r), sum-append K (entriesOf l) (entryOf d ∷ entriesOf r))
-
--- and so is the number of records
-pub entries-length : (T : Tree) → length (entriesOf T) ≡ length (inOrder T)
-entries-length T = length-map (inOrder T) entryOf
 
 -- a change at the end of the way to a key is one of the list, where it is so there, and the list is left elsewhere
 module _ (key : ℕ) (f : Tree → Tree) (op : List Entry → List Entry)

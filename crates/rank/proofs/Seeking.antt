@@ -15,7 +15,7 @@ use Rattle.scope.specs.Sums.{slotsInOrder, pick, rankOf}
 use Rattle.scope.specs.declared.outcome.Rank.{Rank}
 use Rattle.scope.specs.declared.outcome.Rank.the-variants.{At, Past}
 use Rattle.fork.specs.declared.Fork.{Fork}
-use Rattle.fork.specs.Hangs.{Hangs, Says}
+use Rattle.fork.specs.Hangs.{FewHang, Says}
 use Rattle.rank.specs.Ranks.{firstRank, rankSaid, Seeks}
 use Rattle.fork.proofs.Down.{Forked, said-at, at-leaf, says-leaf, says-fork}
 use Rattle.fork.proofs.Order.{order-node, order-size}
@@ -82,7 +82,7 @@ module _ {t : List ℕ} {more x : ℕ} {f : Fork} (d : Forked t more x f) {r : �
             rank-node (pick-after r L x R pos n (sym on-left ∙ e) ne ∙ ap (afterRank (n + 1)) (sym on-right) ∙ sym eq)
 
 -- the walk's numbers at a slot
-module _ {t : List ℕ} {more x w n : ℕ} {f : Fork} (h : Hangs t more x) (d : Forked t more x f) (pos : firstRank ≤ w)
+module _ {t : List ℕ} {more x w n : ℕ} {f : Fork} (h : FewHang t more x) (d : Forked t more x f) (pos : firstRank ≤ w)
     (s : Seeks t (f .left) w n) where
   pub seek-left : n < firstRank → Seeks t x w n
   seek-left lt = record {

@@ -12,7 +12,7 @@ ghost use Rattle.scope.specs.Calls.{Promise};
 ghost use Rattle.scope.specs.Calls as calls;
 ghost use Rattle.spelling.specs.Ready.{Headed};
 ghost use Rattle.spelling.specs.Whole.{Whole};
-ghost use Rattle.fork.specs.Hangs.{Hangs};
+ghost use Rattle.fork.specs.Hangs.{FewHang};
 ghost use Rattle.rank.specs.Ranks.{firstRank, rankSaid, Seeks};
 
 // Rank 1 as a number, and rank r is r - 1 more: so a rank that is wanted is above every slot.
@@ -20,7 +20,7 @@ pub const FIRST: usize = Slots::MOST + 1;
 
 // Looks for a rank among slot x and what hangs below it. Says the slot, or the rank that is wanted after all these.
 pub fn rank_at(t: &[u32], more: usize, x: usize, wanted: usize) -> usize
-    requires { ⌜ (1 ≤ x) × (firstRank ≤ wanted) × Hangs (now t) more x ⌝ }
+    requires { ⌜ (1 ≤ x) × (firstRank ≤ wanted) × FewHang (now t) more x ⌝ }
     ensures { λ a. ⌜ Seeks (now (t .entry)) x wanted a ⌝ }
 {
     let f = fork::fork_at(t, x);
@@ -37,7 +37,7 @@ pub fn rank_at(t: &[u32], more: usize, x: usize, wanted: usize) -> usize
 
 // The same at a link, which may be empty.
 pub fn rank_under(t: &[u32], more: usize, x: usize, wanted: usize) -> usize
-    requires { ⌜ (firstRank ≤ wanted) × Hangs (now t) more x ⌝ }
+    requires { ⌜ (firstRank ≤ wanted) × FewHang (now t) more x ⌝ }
     ensures { λ a. ⌜ Seeks (now (t .entry)) x wanted a ⌝ }
 {
     if x == 0 {

@@ -10,16 +10,16 @@ use Rattle.text_fields.specs.Text.{LineEnds}
 use Rattle.text_print.specs.Put.{Put, PutIn}
 use Rattle.text_print.proofs.Kept.{laid-is}
 use Rattle.stand_desk.specs.Step.{stepTable, stepText}
-use Rattle.stand_shift.specs.Run.{after, wholeRun, Answered}
+use Rattle.stand_shift.specs.Run.{afterText, wholeRun, AnsweredSo}
 use Rattle.stand_shift.proofs.Runs.{after-both, lineAt, next-line}
 
 -- the lines before `next` are answered, and nothing is put unless a line is
-pub record Going (t s : List ℕ) (from : ℕ) (u out : List ℕ) (next at : ℕ) : Type 0 where
-  pub so-far : Answered t s from u out next at
+pub record FillGoing (t s : List ℕ) (from : ℕ) (u out : List ℕ) (next at : ℕ) : Type 0 where
+  pub so-far : AnsweredSo t s from u out next at
   pub ahead : from ≤ next
   pub first : next ≤ from → at ≡ 0
 
-pub setting-out : (t s out : List ℕ) (from : ℕ) → Going t s from t out from 0
+pub setting-out : (t s out : List ℕ) (from : ℕ) → FillGoing t s from t out from 0
 setting-out t s out from =
     record { so-far = record { is = refl; within = omega arith }; ahead = omega arith; first = λ h. refl }
 
@@ -32,23 +32,23 @@ put-front {old} {text} {new} {at} {next} x h =
     ap (take next) (x .holds ∙ laid-is old at text (omega (arith, x .place))) ∙ take-at (take at old ++ text) _ next l
 
 -- ONE LINE MORE: WHAT IT PRINTS STANDS BEHIND THE REST, AND THE NEXT LINE BEGINS AFTER ITS NEWLINE
-pub one-more : {t s u out v new : List ℕ} {from next at end n room : ℕ} → Going t s from u out next at → next < length s
+pub one-more : {t s u out v new : List ℕ} {from next at end n room : ℕ} → FillGoing t s from u out next at → next < length s
     → LineEnds s next end → PutIn out at (stepText u (lineAt s next end)) new n room
     → v ≡ stepTable u (lineAt s next end) → at + room ≤ length out → length new ≡ length out
-    → Going t s from v new (end + 1) n
+    → FillGoing t s from v new (end + 1) n
 one-more {t} {s} {u} {out} {v} {new} {from} {next} {at} {end} {n} {room} g h e x q r k =
     let w = stepText u (lineAt s next end) in
     let y = wholeRun v (drop (end + 1) s) in
-    let p : wholeRun u (drop next s) ≡ after w y = rw q (next-line u s next end h e) in
+    let p : wholeRun u (drop next s) ≡ afterText w y = rw q (next-line u s next end h e) in
     let f : take n new ≡ take at out ++ w = put-front (x .put) (omega (arith, x .within)) in
     record {
       so-far =
           record {
             is =
                 g .so-far .is
-                ∙ ap (after (take at out)) p
+                ∙ ap (afterText (take at out)) p
                 ∙ after-both (take at out) w y
-                ∙ ap (λ (a : List ℕ). after a y) (sym f);
+                ∙ ap (λ (a : List ℕ). afterText a y) (sym f);
             within = omega (arith, x .within);
           };
       ahead = omega (arith, g .ahead, e .is);
@@ -56,6 +56,6 @@ one-more {t} {s} {u} {out} {v} {new} {from} {next} {at} {end} {n} {room} g h e x
     }
 
 -- it stops for want of room only behind a line
-pub moved : {t s u out : List ℕ} {from next at last : ℕ} → Going t s from u out next at → last < at → from < next
+pub moved : {t s u out : List ℕ} {from next at last : ℕ} → FillGoing t s from u out next at → last < at → from < next
 moved {from = from} {next = next} g h =
     elim (decLe next from) [ yes z ↦ absurd (omega (arith, h, g .first z)) | no z ↦ omega (arith, z) ]

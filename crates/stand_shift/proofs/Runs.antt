@@ -12,10 +12,10 @@ use borrow.Author.Tests.{eq-eqb, ne-eqb}
 use Rattle.scope.proofs.Bools.{by-bool}
 use Rattle.text_fields.specs.Text.{firstLine, LineEnds}
 use Rattle.stand_desk.specs.Step.{stepTable, stepText}
-use Rattle.stand_shift.specs.Run.{Run, idle, after, linesRun, wholeRun}
+use Rattle.stand_shift.specs.Run.{Run, idle, afterText, linesRun, wholeRun}
 
 -- two texts before a run are one
-pub after-both : (a b : List ℕ) (r : Run) → after a (after b r) ≡ after (a ++ b) r
+pub after-both : (a b : List ℕ) (r : Run) → afterText a (afterText b r) ≡ afterText (a ++ b) r
 after-both a b r = ap (λ (w : List ℕ). record { text = w; table = r .table }) (sym (append-assoc a b (r .text)))
 
 -- no bytes, no line
@@ -29,7 +29,7 @@ abbrev rest : List ℕ → List ℕ
 rest s = drop (length (firstLine s) + 1) s
 
 a-line : (more : ℕ) (t s : List ℕ) → 0 < length s
-    → linesRun (suc more) t s ≡ after (stepText t (firstLine s)) (linesRun more (stepTable t (firstLine s)) (rest s))
+    → linesRun (suc more) t s ≡ afterText (stepText t (firstLine s)) (linesRun more (stepTable t (firstLine s)) (rest s))
 unfolding linesRun
 a-line more t s h = rw (ne-eqb (length s) 0 (λ (e : length s ≡ 0). omega (arith, e)))
 
@@ -44,7 +44,7 @@ enough (suc m) (suc n) t s p q =
           let l = firstLine s in
           let d = length-drop (length l + 1) s in
           let e = enough m n (stepTable t l) (rest s) (omega (arith, h, d)) (omega (arith, h, d)) in
-          a-line m t s (omega (arith, h)) ∙ ap (after (stepText t l)) e ∙ sym (a-line n t s (omega (arith, h)))
+          a-line m t s (omega (arith, h)) ∙ ap (afterText (stepText t l)) e ∙ sym (a-line n t s (omega (arith, h)))
     ]
 
 -- a line as a part of the input
@@ -66,7 +66,7 @@ line-part s from end e =
 -- THE LINE AT A PLACE IS ANSWERED FIRST, AND THEN THOSE AFTER ITS END
 pub next-line : (t s : List ℕ) (from end : ℕ) → from < length s → LineEnds s from end
     → wholeRun t (drop from s)
-    ≡ after (stepText t (lineAt s from end)) (wholeRun (stepTable t (lineAt s from end)) (drop (end + 1) s))
+    ≡ afterText (stepText t (lineAt s from end)) (wholeRun (stepTable t (lineAt s from end)) (drop (end + 1) s))
 next-line t s from end h e =
     let r = drop from s in
     let l = firstLine r in
@@ -76,4 +76,4 @@ next-line t s from end h e =
     rw (line-part s from end e, o, sym (drop-drop (length l + 1) from s))
     (enough (length r) (suc (length r)) t r (omega arith) (omega arith)
     ∙ a-line (length r) t r (omega (arith, length-drop from s))
-    ∙ ap (after (stepText t l)) more)
+    ∙ ap (afterText (stepText t l)) more)

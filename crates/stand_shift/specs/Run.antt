@@ -21,15 +21,15 @@ pub record Run : Type 0 where
 abbrev pub idle : List ℕ → Run
 idle t = record { text = []; table = t }
 
-abbrev pub after : List ℕ → Run → Run
-after said r = record { text = said ++ r .text; table = r .table }
+abbrev pub afterText : List ℕ → Run → Run
+afterText said r = record { text = said ++ r .text; table = r .table }
 
 -- the lines of s one after the other on the words t, at most `more` of them
 unfoldable pub linesRun : ℕ → List ℕ → List ℕ → Run
 linesRun zero t s = idle t
 linesRun (suc more) t s =
     cond (eqb (length s) 0) (idle t)
-    (after (stepText t (firstLine s)) (linesRun more (stepTable t (firstLine s)) (drop (length (firstLine s) + 1) s)))
+    (afterText (stepText t (firstLine s)) (linesRun more (stepTable t (firstLine s)) (drop (length (firstLine s) + 1) s)))
 
 -- all of them: there are no more lines than bytes
 abbrev pub wholeRun : List ℕ → List ℕ → Run
@@ -49,6 +49,6 @@ runText s = cond (ltb mostInput (length s)) refusedText (wholeRun (newDesk) s .t
 
 -- the lines of s from the place `from` on are answered up to the place `next`: their run is the first `at` bytes of the
 -- buffer, and then the run of the lines from `next` on, on the words u
-pub record Answered (t s : List ℕ) (from : ℕ) (u buffer : List ℕ) (next at : ℕ) : Type 0 where
-  pub is : wholeRun t (drop from s) ≡ after (take at buffer) (wholeRun u (drop next s))
+pub record AnsweredSo (t s : List ℕ) (from : ℕ) (u buffer : List ℕ) (next at : ℕ) : Type 0 where
+  pub is : wholeRun t (drop from s) ≡ afterText (take at buffer) (wholeRun u (drop next s))
   pub within : at ≤ length buffer

@@ -6,7 +6,7 @@ ghost use Prim.Native.Nat.{_≤_, _<_};
 ghost use mathlib.Core.Path.{_≡_};
 ghost use lib.ListN.{length};
 ghost use Rattle.stand_desk.specs.Desk.{deskRoom, deskWords};
-ghost use Rattle.stand_shift.specs.Run.{Answered};
+ghost use Rattle.stand_shift.specs.Run.{AnsweredSo};
 
 // Where the next line begins, and how much of the buffer is filled.
 pub struct Filled {
@@ -17,7 +17,7 @@ pub struct Filled {
 // Answers the lines from the place `from` on, as many as have room in the buffer.
 pub fn fill(t: &mut [u32], input: &[u8], from: usize, out: &mut [u8]) -> Filled
     requires { ⌜ (deskRoom ≤ length (now out)) × (length (now t) ≡ deskWords) ⌝ }
-    ensures { λ r. ⌜ Answered (now (t .entry)) (now (input .entry)) from (now (t .exit)) (now (out .exit))
+    ensures { λ r. ⌜ AnsweredSo (now (t .entry)) (now (input .entry)) from (now (t .exit)) (now (out .exit))
         (r .next) (r .at) ⌝ }
     ensures { λ r. ⌜ (from < length (now (input .entry)) → from < r .next) ⌝ }
 {

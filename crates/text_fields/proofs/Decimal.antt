@@ -8,12 +8,7 @@ use native.Mathlib.Nat.{pow-suc, div-lt-iff-lt-mul}
 use lib.ListN.{length, length-append}
 use lib.Dec.{ltb, lit<}
 use borrow.Author.Tests.{lt-ltb, le-ltb, ltb-true, ltb-false}
-use Rattle.text_fields.specs.Text.{bytes}
 use Rattle.text_fields.specs.Decimal.{decimalIn, decimal}
-
-largest-of-64 : decimal 18446744073709551615 ≡ bytes "18446744073709551615"
-unfolding decimal decimalIn
-largest-of-64 = refl
 
 -- what holds of one digit, and of n where it holds of n / 10, holds of every number that k + 1 digits hold
 decimal-in-ind : (P : ℕ → List ℕ → Type 0)

@@ -12,7 +12,7 @@ use Rattle.scope.specs.Sound.{treeIn}
 use Rattle.scope.specs.Sums.{slotsInOrder}
 use Rattle.text_print.specs.Put.{laid, PutIn}
 use Rattle.text_print.specs.Line.{recordLine, recordRoom}
-use Rattle.text_print.proofs.Laid.{both}
+use Rattle.text_print.proofs.Laid.{both-put}
 use Rattle.spelling.specs.Whole.{Whole}
 use Rattle.in_order.specs.Listed.{InOrder}
 use Rattle.in_order.proofs.Slots.{listed-count, listed-is, listed-few}
@@ -53,7 +53,7 @@ module _ {t : List ℕ} {c : ℕ} {list : List ℕ} {n : ℕ} (o : InOrder t c l
       → PutIn new p (recordLine (getD list i 0) (slotAt t (getD list i 0))) new′ q recordRoom
       → FirstPut t c old at new′ q (i + 1)
   first-more i h x y =
-      let z = both x y in
+      let z = both-put x y in
       record { put = rw (lines-more i h) (z .put); within = omega (arith, z .within) }
 
   pub first-all : {old new : List ℕ} {at p : ℕ} → Whole t c → (i : ℕ) → i ≡ n → FirstPut t c old at new p i

@@ -53,14 +53,14 @@ unfolding laid
 laid-end l text at i h = rw (drop-of-length-le text h)
 
 -- texts with their room
-pub both : {a b c t u : List ℕ} {at p q m n : ℕ} → PutIn a at t b p m → PutIn b p u c q n → PutIn a at (t ++ u) c q (m + n)
-both x y = record { put = put-then (x .put) (y .put); within = omega (arith, x .within, y .within) }
+pub both-put : {a b c t u : List ℕ} {at p q m n : ℕ} → PutIn a at t b p m → PutIn b p u c q n → PutIn a at (t ++ u) c q (m + n)
+both-put x y = record { put = put-then (x .put) (y .put); within = omega (arith, x .within, y .within) }
 
 -- a field in front of others
 pub field-then : {a b c : List ℕ} {at p q m k : ℕ} (w : List ℕ) (n : ℕ) (ws : List (List ℕ)) (ns u : List ℕ)
     → PutIn a at (field w n) b p m → PutIn b p (fields ws ns ++ u) c q k → PutIn a at (fields (w ∷ ws) (n ∷ ns) ++ u) c q (m + k)
 unfolding fields
-field-then w n ws ns u x y = rw (append-assoc (field w n) (fields ws ns) u) (both x y)
+field-then w n ws ns u x y = rw (append-assoc (field w n) (fields ws ns) u) (both-put x y)
 
 -- what stands after the last field
 pub last-text : {a u b : List ℕ} {at p : ℕ} → Put a at u b p → PutIn a at (fields [] [] ++ u) b p (length u)

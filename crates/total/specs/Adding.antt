@@ -9,7 +9,7 @@ use Rattle.scope.specs.Sound.{treeIn}
 use Rattle.scope.specs.Answers.{accepted, answering}
 use Rattle.scope.specs.Sums.{soundGate, totalOf}
 use Rattle.scope.specs.declared.answer.Answer.{Answer}
-use Rattle.fork.specs.Hangs.{Hangs}
+use Rattle.fork.specs.Hangs.{FewHang}
 
 -- the true height of a sound table, answered as the calls of document 01 answer
 unfoldable pub heightAnswer : List ℕ → Answer
@@ -18,7 +18,7 @@ heightAnswer t =
 
 -- a tree hangs at link x, and its pieces can be added to a sum
 pub record Adding (t : List ℕ) (more x sum : ℕ) : Type 0 where
-  pub hangs : Hangs t more x
+  pub hangs : FewHang t more x
   pub room : sum + 1000000 * size (hangs .tree) ≤ 10000000000000
 
 -- what a record counts of a total: its pieces, if its key is at most K

@@ -12,7 +12,7 @@ ghost use Rattle.scope.specs.Sound.{treeIn};
 ghost use Rattle.scope.specs.Sums.{totalOf};
 ghost use Rattle.scope.specs.Calls.{Total, Promise};
 ghost use Rattle.spelling.specs.Whole.{Whole};
-ghost use Rattle.fork.specs.Hangs.{Hangs, Says};
+ghost use Rattle.fork.specs.Hangs.{FewHang, Says};
 ghost use Rattle.total.specs.Adding.{heightAnswer, Adding, countedOf, totalOn};
 
 // One more than the larger of two heights.
@@ -25,7 +25,7 @@ pub fn over(a: usize, b: usize) -> usize
 
 // The true height of slot x and what hangs below it, where that is at most `more` slots.
 pub fn height_at(t: &[u32], more: usize, x: usize) -> usize
-    requires { ⌜ (1 ≤ x) × Hangs (now t) more x ⌝ }
+    requires { ⌜ (1 ≤ x) × FewHang (now t) more x ⌝ }
     ensures { λ r. ⌜ Says (now (t .entry)) x trueHeight r ⌝ }
 {
     let f = fork::fork_at(t, x);
@@ -37,7 +37,7 @@ pub fn height_at(t: &[u32], more: usize, x: usize) -> usize
 
 // The same at a link, which may be empty.
 pub fn height_under(t: &[u32], more: usize, x: usize) -> usize
-    requires { ⌜ Hangs (now t) more x ⌝ }
+    requires { ⌜ FewHang (now t) more x ⌝ }
     ensures { λ r. ⌜ Says (now (t .entry)) x trueHeight r ⌝ }
 {
     if x == 0 { 0 } else { height_at(t, more, x) }

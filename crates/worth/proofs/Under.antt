@@ -13,7 +13,7 @@ use Rattle.spelling.proofs.Laws.{fit-left, fit-right, header-count}
 use Rattle.spelling.specs.Whole.{Whole}
 use Rattle.spelling.proofs.Spell.{tree-in}
 use Rattle.fork.specs.declared.Fork.{Fork}
-use Rattle.fork.specs.Hangs.{Hangs, Says}
+use Rattle.fork.specs.Hangs.{FewHang, Says}
 use Rattle.fork.proofs.Down.{Forked, said-at, says-leaf, says-fork, said}
 use Rattle.worth.specs.Weight.{unit, weightOf, loadOf, joined, topOf, Laden, Bearable}
 use Rattle.worth.proofs.Weight.{weight-leaf, weight-node, weight-most, weight-worth}
@@ -24,7 +24,7 @@ unfolding loadOf size
 weigh-leaf t x n above e c T p = omega (arith, weight-leaf n above) ∙ says-leaf t x (loadOf n above) e c T p
 
 -- what a walk said
-load-is : {t : List ℕ} {more x : ℕ} (k : Hangs t more x) (n g : ℕ) {a : ℕ} → Says t x (loadOf n g) a
+load-is : {t : List ℕ} {more x : ℕ} (k : FewHang t more x) (n g : ℕ) {a : ℕ} → Says t x (loadOf n g) a
     → a ≡ unit * weightOf n g (k .tree) + size (k .tree)
 unfolding loadOf
 load-is k n g s = said-at k (loadOf n g) s

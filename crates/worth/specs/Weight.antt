@@ -5,7 +5,7 @@ use Rattle.scope.specs.Numbers.{mostSlots}
 use Rattle.scope.specs.Tree.{Tree, leaf, node, size, over}
 use Rattle.scope.specs.Worth.{gap, negOf, posOf, NEG, POS, BAL, RBAL}
 use Rattle.scope.specs.declared.slot.Slot.{Slot}
-use Rattle.fork.specs.Hangs.{Hangs}
+use Rattle.fork.specs.Hangs.{FewHang}
 
 -- the four sums, the carry of the tree's own top counted too
 unfoldable pub weightOf : ℕ → ℕ → Tree → ℕ
@@ -55,4 +55,4 @@ pub record Bearable (more n above : ℕ) : Type 0 where
 
 -- a tree hangs at link x
 abbrev pub Rooted : List ℕ → ℕ → Type 0
-Rooted t x = (more : ℕ) × Hangs t more x
+Rooted t x = (more : ℕ) × FewHang t more x

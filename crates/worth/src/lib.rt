@@ -11,7 +11,7 @@ ghost use Rattle.scope.specs.Sound.{treeIn};
 ghost use Rattle.scope.specs.Worth.{gap, worthOf};
 ghost use Rattle.scope.specs.Calls.{Worth, Promise};
 ghost use Rattle.spelling.specs.Whole.{Whole};
-ghost use Rattle.fork.specs.Hangs.{Hangs, Says};
+ghost use Rattle.fork.specs.Hangs.{FewHang, Says};
 ghost use Rattle.worth.specs.Weight.{ownWeight, loadOf, joined, topOf, Light, Laden, Bearable, Rooted};
 
 // What hangs at a link, as one number: its weight in units, and how many slots it is, which is less than a unit.
@@ -75,7 +75,7 @@ pub fn join(s: Slot, n: u64, above: u64, a: u64, b: u64) -> u64
 
 // What slot x and what hangs below it weigh, of n slots in all, with a register above it.
 pub fn weigh_at(t: &[u32], more: usize, x: usize, n: u64, above: u64) -> u64
-    requires { ⌜ (1 ≤ x) × Hangs (now t) more x × Bearable more n above ⌝ }
+    requires { ⌜ (1 ≤ x) × FewHang (now t) more x × Bearable more n above ⌝ }
     ensures { λ r. ⌜ Says (now (t .entry)) x (loadOf n above) r ⌝ }
 {
     let f = fork::fork_at(t, x);
@@ -88,7 +88,7 @@ pub fn weigh_at(t: &[u32], more: usize, x: usize, n: u64, above: u64) -> u64
 
 // The same at a link, which may be empty.
 pub fn weigh_under(t: &[u32], more: usize, x: usize, n: u64, above: u64) -> u64
-    requires { ⌜ Hangs (now t) more x × Bearable more n above ⌝ }
+    requires { ⌜ FewHang (now t) more x × Bearable more n above ⌝ }
     ensures { λ r. ⌜ Says (now (t .entry)) x (loadOf n above) r ⌝ }
 {
     if x == 0 {

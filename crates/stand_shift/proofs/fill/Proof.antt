@@ -3,13 +3,13 @@ use Prim.Native.Nat.{_-_}
 use mathlib.Core.Path.{_≡_}
 use native.Mathlib.Omega.{arith}
 use lib.ListN.{length}
-use Rattle.stand_shift.proofs.Filling.{Going, setting-out, one-more, moved}
+use Rattle.stand_shift.proofs.Filling.{FillGoing, setting-out, one-more, moved}
 use Rattle.stand_shift.proofs.fill.Statement.{statement}
 use Rattle.stand_shift.proofs.fill.Tie as tie
 
 abbrev Inv-loop : tie.InvT-loop
 Inv-loop t₀ input from out₀ last next₀ at₀ t out next at =
-    Going t₀ input from t out next at × (length out ≡ length out₀) × (length t ≡ length t₀)
+    FillGoing t₀ input from t out next at × (length out ≡ length out₀) × (length t ≡ length t₀)
 
 abbrev μ-loop : tie.MeasureT-loop
 μ-loop t₀ input from out₀ last next₀ at₀ t out next at = length input - next

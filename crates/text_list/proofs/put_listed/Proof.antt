@@ -1,7 +1,7 @@
 -- `text_list::put_listed` meets its contract. Assumes nothing.
 use borrow.Author.Needs.{needs}
 use Rattle.text_list.specs.List.{listed}
-use Rattle.text_print.proofs.Laid.{both}
+use Rattle.text_print.proofs.Laid.{both-put}
 use Rattle.text_list.proofs.put_listed.Statement.{statement}
 use Rattle.text_list.proofs.put_listed.Tie as tie
 
@@ -21,7 +21,7 @@ returns : tie.Need-returns
 unfolding listed
 returns c =
     let b = c .before .before .before .before .before .before in
-    both (rw (b .before .answer .ensures) at (b .put-answer .ensures)) (c .before .before .put-records .ensures)
+    both-put (rw (b .before .answer .ensures) at (b .put-answer .ensures)) (c .before .before .put-records .ensures)
 
 pub put-listed-spec : {M : Type 1} → statement M
 put-listed-spec =

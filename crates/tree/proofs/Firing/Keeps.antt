@@ -1,20 +1,18 @@
 -- A rewriting keeps the records in order, hence slots and keys, and the zeros beside empty links. Assumes nothing.
-use Prim.Native.Nat.{ℕ, _+_, _≤_}
+use Prim.Native.Nat.{ℕ, _+_}
 use mathlib.Core.Path.{_≡_, refl, sym, _∙_, ap}
 use mathlib.Core.Option.{Option, none, some}
 use mathlib.Core.List.{List, [], _∷_, _++_}
 use native.Mathlib.Omega.{arith}
-use borrow.Author.Tests.{leb-true}
 use lib.ListN.{length, length-append}
 use Rattle.scope.specs.Tree.{Batch, Tree, leaf, node, size, inOrder, times, same}
-use Rattle.scope.specs.Rules.{guard, highest}
-use Rattle.scope.proofs.Bools.{and-r}
+use Rattle.scope.specs.Rules.{guard}
 use Rattle.scope.specs.declared.side.Side.{Side}
 use Rattle.scope.specs.declared.rule.Kind.{Kind}
 use Rattle.scope.specs.declared.rule.Rule.{Rule}
-use Rattle.tree.specs.Rewrite.{Test, rewriteAt, within, Attempt, attempted, orSame, afterAttempts}
+use Rattle.tree.specs.Rewrite.{Test, rewriteAt, Attempt, attempted, orSame, afterAttempts}
 use Rattle.tree.specs.Step.{Step, propagates, leans, evens, doubles}
-use Rattle.tree.specs.Shape.{Beside, Relaxed, Low}
+use Rattle.tree.specs.Shape.{Beside, Relaxed}
 use Rattle.tree.proofs.Firing.Steps.{anywhere}
 use Rattle.tree.proofs.Firing.Sides.{between-turns, order-mk, beside-mk}
 use Rattle.tree.proofs.Firing.Moves.{moves}
@@ -48,14 +46,6 @@ module _ (test : Test) where
             (λ s k T T′ x _ a _. step-beside s k T T′ x a) (λ s d x near near′ far a _. beside-mk s d x near′ far a)
             way r T T′ e .each;
       }
-
--- an accepted firing leaves no register above the limit
-pub low-kept : (limit : ℕ) (way : List Side) (r : Rule) (T T′ : Tree) → rewriteAt (within limit) way r T ≡ some T′
-    → Low limit T → Low limit T′
-low-kept limit way r T T′ e =
-    moves (within limit) (λ a T. a ≤ limit)
-    (λ k v u w x g h s d near far. omega (arith, leb-true (highest k v u w) limit (and-r (guard k v u w) _ g)))
-    (λ s k T T′ x _ a h. h) (λ s d x near near′ far a h. h) way r T T′ e .each
 
 -- and over any list of attempts
 kept-keeps : (o : Option Tree) (T : Tree) → ((T′ : Tree) → o ≡ some T′ → Keeps T T′) → Keeps T (orSame o T)

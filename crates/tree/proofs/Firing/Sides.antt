@@ -3,7 +3,7 @@ use Prim.Native.Nat.{ℕ, suc, _+_}
 use mathlib.Core.Path.{_≡_, refl}
 use mathlib.Core.List.{List, _∷_, _++_, append-assoc}
 use native.Mathlib.Omega.{arith}
-use Rattle.scope.specs.Tree.{Batch, Tree, size, inOrder, times, same, over, trueHeight}
+use Rattle.scope.specs.Tree.{Batch, Tree, size, inOrder, times, same}
 use Rattle.scope.specs.Rules.{localh}
 use Rattle.scope.specs.declared.rule.Pair.{Pair}
 use Rattle.scope.specs.declared.side.Side.{Side}
@@ -34,10 +34,6 @@ module _ (s : Side) (d : Batch) (x : Pair) (near far : Tree) where
   pub top-mk : topHeight (mk s d x near far) ≡ localh x
   unfolding topHeight
   top-mk = elim s [ Left ↦ refl | Right ↦ omega arith ]
-
-  pub true-mk : trueHeight (mk s d x near far) ≡ over (trueHeight near) (trueHeight far)
-  unfolding trueHeight
-  true-mk = elim s [ Left ↦ refl | Right ↦ omega arith ]
 
   pub order-mk : inOrder (mk s d x near far) ≡ inBetween s (inOrder near) d (inOrder far)
   unfolding inOrder

@@ -19,8 +19,6 @@ use Rattle.tree.specs.Rewrite.{fireAt, Attempt, attempted, orSame, oneIf
 use Rattle.tree.proofs.Worth.Weight.{worth-under, worth-least}
 use Rattle.tree.proofs.Worth.Tilt.{tilt-sym, carry-none, carry-step, propagate-num, lean-tilt, even-tilt, double-tilt}
 use Rattle.tree.proofs.Firing.Guards.{propagate-says, lean-says, even-says, double-says}
-use Rattle.tree.specs.Shape.{Quiet}
-use Rattle.tree.proofs.Firing.Steps.{none-there}
 use Rattle.tree.proofs.Worth.Falls.{falls}
 
 -- the scale of the worth
@@ -101,7 +99,3 @@ accepted-bound (x ∷ xs) T =
       one (attempted x T) T (worth-falls (x .way) (x .rule) T),
       accepted-bound xs (orSame (attempted x T) T),
     )
-
--- and where the worth is spent, no guard holds
-pub spent-quiet : (T : Tree) → worthOf T ≡ 0 → Quiet T
-spent-quiet T z way r = none-there (fireAt way r T) (λ T′ e. omega (arith, worth-falls way r T T′ e))

@@ -17,10 +17,6 @@ pub tilt-sym : (a b : ℕ) → tilt a b ≡ tilt b a
 unfolding tilt
 tilt-sym a b = omega arith
 
-pub tilt-same : (a : ℕ) → tilt a a ≡ 0
-unfolding tilt
-tilt-same a = omega arith
-
 pub tilt-gt : (a b : ℕ) → b < a → tilt a b + (3 * b + 1) ≡ 3 * a
 unfolding tilt
 tilt-gt a b h = omega arith

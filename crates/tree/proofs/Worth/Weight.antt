@@ -2,8 +2,7 @@
 use Prim.Native.Nat.{ℕ, suc, _+_, _*_, _-_, _≤_}
 use mathlib.Core.Path.{_≡_, refl}
 use native.Mathlib.Omega.{arith}
-use native.Mathlib.Nat.{zero-add}
-use Rattle.scope.specs.Tree.{Batch, Tree, leaf, node, size, over}
+use Rattle.scope.specs.Tree.{Tree, leaf, node, size, over}
 use Rattle.scope.specs.Worth.{negOf, posOf, NEG, POS, BAL, RBAL, worthOf}
 use Rattle.tree.specs.Weight.{tilt, carry, topHeight, under, weigh}
 use Rattle.tree.specs.Variant.{short, negative}
@@ -31,14 +30,6 @@ no-carry (node d a b l r) = let z : over a b - over a b ≡ 0 = omega arith in r
 pub worth-under : (T : Tree) → worthOf T ≡ under T 0 (topHeight T)
 unfolding worthOf
 worth-under T = omega (arith, under-sums T (size T) 0 (topHeight T) (omega arith), no-carry T)
-
--- so it is its balance's weight and its sons' weights
-pub worth-node : (d : Batch) (a b : ℕ) (l r : Tree)
-    → worthOf (node d a b l r) ≡ tilt a b + (under l (suc (size r)) a + under r (suc (size l)) b)
-unfolding under topHeight carry
-worth-node d a b l r =
-    let z : over a b - over a b ≡ 0 = omega arith in
-    omega (arith, simp (z, zero-add) at (worth-under (node d a b l r)))
 
 -- any other register above adds to it
 pub worth-least : (T : Tree) (above : ℕ) → worthOf T ≤ under T 0 above

@@ -4,13 +4,13 @@ use mathlib.Core.Path.{_≡_, ap}
 use native.Mathlib.Omega.{arith}
 use lib.ListN.{length}
 use Rattle.stand_desk.specs.Desk.{deskWords}
-use Rattle.stand_shift.proofs.Telling.{Told, told-none, told-more, told-piece, told-all}
+use Rattle.stand_shift.proofs.Telling.{ToldSoFar, told-none, told-more, told-piece, told-all}
 use Rattle.stand_shift.proofs.run.answer_all.Statement.{statement}
 use Rattle.stand_shift.proofs.run.answer_all.Tie as tie
 
 abbrev Inv-loop : tie.InvT-loop
 Inv-loop input t₀ out₀ from₀ sent₀ t out from sent =
-    Told input t from sent × (sent ≤ 16384 * from)
+    ToldSoFar input t from sent × (sent ≤ 16384 * from)
     × (length out ≡ length out₀) × (length t ≡ deskWords) × (length t ≡ length t₀)
 
 abbrev μ-loop : tie.MeasureT-loop

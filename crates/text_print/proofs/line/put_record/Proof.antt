@@ -1,6 +1,6 @@
 -- `text_print::line::put_record` meets its contract. Assumes nothing.
 use borrow.Author.Needs.{needs}
-use Rattle.text_print.proofs.Laid.{both, record-parts}
+use Rattle.text_print.proofs.Laid.{both-put, record-parts}
 use Rattle.text_print.proofs.line.put_record.Statement.{statement}
 use Rattle.text_print.proofs.line.put_record.Tie as tie
 
@@ -16,7 +16,7 @@ same-length c = search needs
 returns : tie.Need-returns
 returns c =
     let b6 = c .before .before .before .before .before .before in
-    rw (record-parts _ _) (both (b6 .put-start .ensures) (c .before .before .put-end .ensures))
+    rw (record-parts _ _) (both-put (b6 .put-start .ensures) (c .before .before .put-end .ensures))
 
 pub put-record-spec : {M : Type 1} → statement M
 put-record-spec = tie.close (tie.spec put-start-requires put-end-requires same-length returns)
