@@ -1,3 +1,3 @@
--- Laws that the functions of `ranks` lean on.
+-- Laws that the functions of `rank` lean on.
 pub mod Pick
 pub mod Seeking

@@ -1,3 +1,3 @@
--- The definitions that the contracts of `desk` cite.
+-- The definitions that the contracts of `stand_desk` cite.
 pub mod Step
 pub mod Desk

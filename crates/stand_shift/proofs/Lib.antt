@@ -1,4 +1,4 @@
--- What is proved in `shift` beside its functions.
+-- What is proved in `stand_shift` beside its functions.
 pub mod Runs
 pub mod Filling
 pub mod Telling

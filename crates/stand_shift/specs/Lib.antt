@@ -1,2 +1,2 @@
--- The definitions that the contracts of `shift` cite.
+-- The definitions that the contracts of `stand_shift` cite.
 pub mod Run

@@ -1,2 +1,2 @@
--- What is proved in `listing` beside its functions.
+-- What is proved in `text_list` beside its functions.
 pub mod Records

@@ -1,2 +1,2 @@
--- The definitions that the contracts of `listing` cite.
+-- The definitions that the contracts of `text_list` cite.
 pub mod List

@@ -43,7 +43,8 @@ pub weight-node : (n above : ℕ) (d : Batch) (a b : ℕ) (l r : Tree)
 unfolding weightOf ownWeight negOf posOf NEG POS BAL RBAL
 weight-node n above d a b l r =
     gather ((n - size (node d a b l r)) * (over a b - above)) (above - over a b)
-    (negOf n a l) (negOf n b r) (posOf a l) (posOf b r) (NEG n l) (NEG n r) (POS l) (POS r) (gap a b) (gap a b - 1) (BAL l) (BAL r) (RBAL l) (RBAL r)
+    (negOf n a l) (negOf n b r) (posOf a l) (posOf b r) (NEG n l) (NEG n r) (POS l) (POS r)
+    (gap a b) (gap a b - 1) (BAL l) (BAL r) (RBAL l) (RBAL r)
 
 pub weight-leaf : (n above : ℕ) → weightOf n above leaf ≡ 0
 unfolding weightOf negOf posOf NEG POS BAL RBAL

@@ -44,7 +44,8 @@ returns c =
     let small = v .before .before .before .before .shared-slice-known .given in
     let header = sym (v .before .before .before .header-ok .ensures) ∙ v .before .before .if1 .taken in
     let none = c .before .before .if2 .taken in
-    by-pass _ _ (λ i. omega (arith, small i)) _ _ no-marks (start .pre .most) header _ none told (c .rest-blank .result) (c .rest-blank .ensures)
+    by-pass _ _ (λ i. omega (arith, small i)) _ _ no-marks (start .pre .most) header _ none told
+    (c .rest-blank .result) (c .rest-blank .ensures)
 
 returns-2 : tie.Need-returns-2
 returns-2 c =

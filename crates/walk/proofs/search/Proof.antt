@@ -1,5 +1,5 @@
--- `walk::search` meets its contract: the invariant is that the whole walk is what is still to be walked (`Heading`), and
--- each way on or out is one law of it. Assumes nothing.
+-- `walk::search` meets its contract: the invariant is that the whole walk is what is still to be walked (`Heading`),
+-- and each way on or out is one law of it. Assumes nothing.
 use Prim.Native.Nat.{_-_}
 use native.Mathlib.Omega.{arith}
 use borrow.Author.Needs.{needs}
