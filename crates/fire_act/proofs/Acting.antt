@@ -9,10 +9,10 @@ use Rattle.scope.specs.declared.rule.Kind.{Kind}
 use Rattle.scope.specs.declared.rule.Rule.{Rule}
 use Rattle.scope.specs.declared.outcome.Nodes.{Nodes}
 use Rattle.spelling.specs.Ready.{Sized}
-use Rattle.fire_aim.specs.Aimed.{Within}
+use Rattle.fire_aim.specs.Aimed.{NodesWithin}
 use Rattle.fire_act.specs.Wrote.{InNodes, Kept, HeightsLow}
 
-module _ {t : List ℕ} {c : ℕ} {r : Rule} {n : Nodes} (s : Sized t c) (w : Within c r n) (k : Kind) (e : r .kind ≡ k) where
+module _ {t : List ℕ} {c : ℕ} {r : Rule} {n : Nodes} (s : Sized t c) (w : NodesWithin c r n) (k : Kind) (e : r .kind ≡ k) where
   -- what an action asks
   pub asked : InNodes t c n × HeightsLow k (r .side) n
   unfolding highestAt

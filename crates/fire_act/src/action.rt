@@ -12,7 +12,7 @@ ghost use Rattle.scope.specs.Table.{written};
 ghost use Rattle.scope.specs.Edits.{writes};
 ghost use Rattle.scope.specs.Rules.{actionAt, propagated, rotated, rotatedTwice, rotatedLinks, rotatedHeights, twiceTop, twiceSons, twiceCopied, twiceHeights};
 ghost use Rattle.scope.specs.declared.rule.Kind.the-variants.{Propagate, Lean, Double};
-ghost use Rattle.fire_aim.specs.Aimed.{Within};
+ghost use Rattle.fire_aim.specs.Aimed.{NodesWithin};
 ghost use Rattle.fire_act.specs.Wrote.{InNodes, Kept, HeightsLow};
 ghost use Rattle.spelling.specs.Ready.{Sized};
 
@@ -117,7 +117,7 @@ pub fn rotate_twice(t: &mut [u32], c: usize, n: Nodes, near: Side)
 
 // The action of a rule at its nodes.
 pub fn act(t: &mut [u32], c: usize, r: Rule, n: Nodes)
-    requires { ⌜ Sized (now t) c × Within c r n ⌝ }
+    requires { ⌜ Sized (now t) c × NodesWithin c r n ⌝ }
     ensures { λ _. ⌜ Kept c (written (now (t .entry)) (actionAt r n)) (now (t .exit)) ⌝ }
 {
     let side = r.side;

@@ -3,3 +3,6 @@ pub mod action;
 pub mod put;
 
 pub use action::act;
+pub use action::propagate;
+pub use action::rotate;
+pub use action::rotate_twice;

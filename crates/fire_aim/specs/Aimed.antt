@@ -35,13 +35,13 @@ pub record NodesInside (c : ℕ) (n : Nodes) : Type 0 where
   pub w-most : n .w ≤ c
 
 -- and the heights that the action works out are heights
-pub record Within (c : ℕ) (r : Rule) (n : Nodes) : Type 0 where
+pub record NodesWithin (c : ℕ) (r : Rule) (n : Nodes) : Type 0 where
   pub nodes : NodesInside c n
   pub height : highestAt r n ≤ 65535
 
 abbrev pub MayFire : ℕ → Firing → Type 0
 MayFire c (Refuse why) = Unit {0}
-MayFire c (Fire r n) = Within c r n
+MayFire c (Fire r n) = NodesWithin c r n
 
 -- a firing as defined, that may be carried out in a table of c slots
 pub record Aimed (c : ℕ) (plan f : Firing) : Type 0 where

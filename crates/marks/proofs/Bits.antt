@@ -36,12 +36,12 @@ or-one zero h = or-zero-l 1
 or-one (suc zero) h = refl
 or-one (suc (suc n)) h = absurd (omega arith)
 
-set-same : (w b : ℕ) → bitOr w (2 ^ b) / 2 ^ b % 2 ≡ 1
+pub set-same : (w b : ℕ) → bitOr w (2 ^ b) / 2 ^ b % 2 ≡ 1
 set-same w b =
     or-bit w (2 ^ b) b ∙ ap (λ (x : ℕ). bitOr (w / 2 ^ b % 2) (x % 2)) (div-self (pow-pos b))
     ∙ or-one (w / 2 ^ b % 2) (omega arith)
 
-set-other : (w b i : ℕ) → (i ≡ b → ⊥) → bitOr w (2 ^ b) / 2 ^ i % 2 ≡ w / 2 ^ i % 2
+pub set-other : (w b i : ℕ) → (i ≡ b → ⊥) → bitOr w (2 ^ b) / 2 ^ i % 2 ≡ w / 2 ^ i % 2
 set-other w b i ne =
     or-bit w (2 ^ b) i ∙ ap (λ (x : ℕ). bitOr (w / 2 ^ i % 2) x) (other-bit b i ne) ∙ or-zero-r (w / 2 ^ i % 2)
 
@@ -50,11 +50,11 @@ pub mask : (b : ℕ) → b < 64 → 1 * 2 ^ b % 2 ^ 64 ≡ 2 ^ b
 mask b h = ap (λ (x : ℕ). x % 2 ^ 64) (one-mul (2 ^ b)) ∙ mod-eq-of-lt (pow-lt h)
 
 -- the words with another word for slot k's: x, in which that slot's bit is y and every other bit as it was
-pub one-bit : (m : List ℕ) (k x y : ℕ) → k < 4096 → length m ≡ 64 → x / 2 ^ (k % 64) % 2 ≡ y
+pub one-bit : (m : List ℕ) (k x y : ℕ) → k / 64 < length m → x / 2 ^ (k % 64) % 2 ≡ y
     → ((i : ℕ) → (i ≡ k % 64 → ⊥) → x / 2 ^ i % 2 ≡ getD m (k / 64) 0 / 2 ^ i % 2)
-    → (j : ℕ) → j < 4096 → bitAt (set m (k / 64) x) j ≡ cond (eqb j k) y (bitAt m j)
+    → (j : ℕ) → bitAt (set m (k / 64) x) j ≡ cond (eqb j k) y (bitAt m j)
 unfolding bitAt
-one-bit m k x y hk len same other j hj = go (ℕ-discrete (j / 64) (k / 64)) (ℕ-discrete (j % 64) (k % 64))
+one-bit m k x y here same other j = go (ℕ-discrete (j / 64) (k / 64)) (ℕ-discrete (j % 64) (k % 64))
   where
     m′ : List ℕ
     m′ = set m (k / 64) x
@@ -69,18 +69,18 @@ one-bit m k x y hk len same other j hj = go (ℕ-discrete (j / 64) (k / 64)) (�
     go (yes e) (no f) =
         apart (λ e. f (ap (λ (x : ℕ). x % 64) e))
         (ap (λ (i : ℕ). getD m′ i 0 / 2 ^ (j % 64) % 2) e
-        ∙ ap (λ (x : ℕ). x / 2 ^ (j % 64) % 2) (getD-set-same m (k / 64) x 0 (omega arith))
+        ∙ ap (λ (x : ℕ). x / 2 ^ (j % 64) % 2) (getD-set-same m (k / 64) x 0 here)
         ∙ other (j % 64) f
         ∙ ap (λ (i : ℕ). getD m i 0 / 2 ^ (j % 64) % 2) (sym e))
     go (yes e) (yes f) =
         let one : j ≡ k = omega arith in
         subst (λ (x : ℕ). bitAt m′ x ≡ cond (eqb x k) y (bitAt m x)) (sym one)
-        (ap (λ (x : ℕ). x / 2 ^ (k % 64) % 2) (getD-set-same m (k / 64) x 0 (omega arith))
+        (ap (λ (x : ℕ). x / 2 ^ (k % 64) % 2) (getD-set-same m (k / 64) x 0 here)
         ∙ same ∙ sym (ap (λ (b : Bool). cond b y (bitAt m k)) (eq-eqb k k refl)))
 
 -- the words with bit k set
 pub marks : (m : List ℕ) (k : ℕ) → k < 4096 → length m ≡ 64 → (j : ℕ) → j < 4096
     → bitAt (set m (k / 64) (bitOr (getD m (k / 64) 0) (2 ^ (k % 64)))) j ≡ cond (eqb j k) 1 (bitAt m j)
-marks m k hk len =
+marks m k hk len j hj =
     let w = getD m (k / 64) 0 in
-    one-bit m k (bitOr w (2 ^ (k % 64))) 1 hk len (set-same w (k % 64)) (λ i. set-other w (k % 64) i)
+    one-bit m k (bitOr w (2 ^ (k % 64))) 1 (omega arith) (set-same w (k % 64)) (λ i. set-other w (k % 64) i) j

@@ -1,7 +1,8 @@
 -- Laws of tidying.
 pub mod Order
+pub mod Counting
+pub mod Reviewing
 pub mod Scanning
-pub mod Rousing
-pub mod Dues
+pub mod Firing
 pub mod Going
 pub mod Outcome

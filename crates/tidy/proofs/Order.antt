@@ -32,20 +32,20 @@ module _ (test : ℕ → ℕ → Bool) where
   abbrev Fails : ℕ → Type 0
   Fails k = (n : ℕ) → 1 ≤ n → n ≤ 8 → test k n ≡ false
 
-  pub slots-none : (left v : ℕ) → ((k : ℕ) → v ≤ k → k < v + left → Fails k) → slotsFrom test left v ≡ Nothing
+  pub order-none : (left v : ℕ) → ((k : ℕ) → v ≤ k → k < v + left → Fails k) → slotsFrom test left v ≡ Nothing
   unfolding slotsFrom
-  slots-none zero v h = refl
-  slots-none (suc left) v h =
+  order-none zero v h = refl
+  order-none (suc left) v h =
       rules-none 8 v 1 _ (λ j p q. h v (omega arith) (omega arith) j p (omega arith))
-      ∙ slots-none left (v + 1) (λ k p q. h k (omega arith) (omega arith))
+      ∙ order-none left (v + 1) (λ k p q. h k (omega arith) (omega arith))
 
-  pub slots-at : (left v k j : ℕ) → v ≤ k → k < v + left → ((i : ℕ) → v ≤ i → i < k → Fails i) → 1 ≤ j → j ≤ 8
+  pub order-at : (left v k j : ℕ) → v ≤ k → k < v + left → ((i : ℕ) → v ≤ i → i < k → Fails i) → 1 ≤ j → j ≤ 8
       → ((i : ℕ) → 1 ≤ i → i < j → test k i ≡ false) → test k j ≡ true → slotsFrom test left v ≡ At k j
   unfolding slotsFrom
-  slots-at zero v k j p q h a b g e = absurd (omega arith)
-  slots-at (suc left) v k j p q h a b g e =
+  order-at zero v k j p q h a b g e = absurd (omega arith)
+  order-at (suc left) v k j p q h a b g e =
       elim (ℕ-discrete v k) [
         | yes s ↦ rw s (rules-at 8 k 1 j _ a (omega arith) g e)
         | no ne ↦ rules-none 8 v 1 _ (λ i o l. h v (omega arith) (omega arith) i o (omega arith))
-            ∙ slots-at left (v + 1) k j (omega arith) (omega arith) (λ i o l. h i (omega arith) l) a b g e
+            ∙ order-at left (v + 1) k j (omega arith) (omega arith) (λ i o l. h i (omega arith) l) a b g e
       ]

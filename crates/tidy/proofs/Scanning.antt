@@ -1,123 +1,120 @@
--- The scan under way: where no rule passes, and one law for each way on or out. Assumes nothing.
+-- The scan under way: one law for each way on or out. Assumes nothing.
 use Prim.Native.Nat.{ℕ, _+_, _≤_, _<_}
-use mathlib.Core.Path.{_≡_, sym, _∙_}
-use mathlib.Core.Bool.{Bool, true, false}
+use mathlib.Core.Path.{_≡_, refl, sym, _∙_}
+use mathlib.Core.Bool.{true, false}
 use mathlib.Core.List.{List}
-use lib.ListN.{length, replicate, length-replicate}
 use native.Mathlib.Omega.{arith}
-use native.Mathlib.Decide.{ℕ-discrete, decLt}
+use native.Mathlib.Decide.{ℕ-discrete}
 use borrow.Author.Tests.{ne-eqb}
-use Rattle.scope.specs.Tidy.{passes}
-use Rattle.scope.specs.declared.outcome.Next.the-variants.{At, Nothing}
-use Rattle.spelling.specs.Ready.{Sized}
+use lib.ListN.{getD}
+use Rattle.scope.proofs.Bools.{and-l}
+use Rattle.scope.specs.Numbers.{rootLink, ruleOf}
+use Rattle.scope.specs.Table.{slotAt}
+use Rattle.scope.specs.Tidy.{nodesAt, present, holdsAt, dueAt, passes, nextOf}
+use Rattle.scope.specs.declared.slot.Slot.{Slot}
+use Rattle.scope.specs.declared.side.Link.{Link}
+use Rattle.scope.specs.declared.rule.Rule.{Rule}
+use Rattle.scope.specs.declared.rule.RuleIs.the-variants as rule-is
+use Rattle.scope.specs.declared.outcome.Nodes.{Nodes}
+use Rattle.scope.specs.declared.outcome.Next.the-variants.{Nothing}
+use Rattle.spelling.specs.Whole.{Whole}
+use Rattle.bridge.specs.Due.{Due}
 use Rattle.marks.specs.Marks.{bitAt}
-use Rattle.tidy_agenda.specs.Agenda.{Cleared, Lowest}
-use Rattle.marks.proofs.Passing.{all-marks}
-use Rattle.tidy_sight.specs.Stirring.{stirsAt}
-use Rattle.tidy_sight.proofs.Calm.{none-passes}
-use Rattle.tidy.specs.Found.{Idle, Rested, Found}
-use Rattle.tidy.proofs.Order.{slots-none, slots-at}
+use Rattle.tidy_agenda.specs.Agenda.{Struck, Lowest}
+use Rattle.tidy_sight.specs.Sight.{Present}
+use Rattle.tidy_holders.specs.Codes.{linkOf}
+use Rattle.tidy_holders.specs.Holds.{Holds}
+use Rattle.tidy_holders.proofs.Leaving.DueNodes.{link-noted}
+use Rattle.tidy.specs.Coming.{NoneDue, DueListed, NextAt}
+use Rattle.tidy.proofs.Order.{order-none, order-at}
 
--- at slot v and at rule n
-pub record Trying (limited : Bool) (t : List ℕ) (c : ℕ) (m : List ℕ) (v n : ℕ) : Type 0 where
-  pub rested : Rested limited t c m v
-  pub most : v ≤ c
-  pub lowest : 1 ≤ n
-  pub highest : n ≤ 9
-  pub tried : (j : ℕ) → 1 ≤ j → j < n → passes limited t c v j ≡ false
+module _ {t : List ℕ} {c : ℕ} {m : List ℕ} (s : DueListed t c m) {v : ℕ} (l : Lowest m v) where
+  none-below : (k : ℕ) → 1 ≤ k → k ≤ c → k < v → NoneDue t c k
+  none-below k i j h = s .off k i j (l .below k h)
 
-module _ {limited : Bool} {t : List ℕ} {c : ℕ} {m : List ℕ} where
-  module _ {v r : ℕ} (s : Rested limited t c m v) (l : Lowest m v r) where
-    -- from v up to r every slot is off
-    idle-below : (k : ℕ) → 1 ≤ k → k ≤ c → k < r → Idle limited t c k
-    idle-below k i j h =
-        elim (decLt k v) [
-          | yes q ↦ s .below k i j q
-          | no q ↦ s .off k i j (l .off k (omega arith) h)
+  pub none-next : c < v → nextOf t c ≡ Nothing
+  unfolding nextOf
+  none-next h = order-none (passes true t c) c 1 (λ k p q. none-below k p (omega arith) (omega arith))
+
+  module _ (most : v ≤ c) (small : c ≤ 4095) where
+    pub slot-listed : bitAt m v ≡ 1
+    slot-listed = l .listed (omega arith)
+
+    -- the lowest slot that is listed is one
+    pub slot-first : 1 ≤ v
+    slot-first =
+        elim (ℕ-discrete v 0) [
+          | yes e ↦ let on = rw e at slot-listed in absurd (omega (arith, s .zero))
+          | no ne ↦ omega arith
         ]
 
-    pub none-found : c < r → Found limited t c m Nothing
-    none-found h = record {
-      is = sym (slots-none (passes limited t c) c 1 (λ k p q. idle-below k p (omega arith) (omega arith)));
-      stopped = tt;
-    }
-
-    -- at the next slot that is on
-    module _ (z : Sized t c) (h : r ≤ c) where
-      pub rested-here : Rested limited t c m r
-      rested-here = record {
-        room = s .room;
-        first = omega (arith, s .first, l .first);
-        most = omega arith;
-        off = s .off;
-        below = λ k i j q. idle-below k i j q;
-      }
-
-      pub slot-on : (r < 4096) × (length m ≡ 64) × (bitAt m r ≡ 1)
-      slot-on = (omega (arith, z .most), s .room, l .on (omega (arith, z .most)))
-
-      pub trying-start : Trying limited t c m r 1
-      trying-start = record {
-        rested = rested-here;
-        most = h;
-        lowest = omega arith;
-        highest = omega arith;
-        tried = λ j p q. absurd (omega arith);
-      }
-
-      -- no rule passes there, and it is taken off
-      pub taken-off : Idle limited t c r → {m′ : List ℕ} → Cleared m r m′ → Rested limited t c m′ (r + 1)
-      taken-off d x = record {
-        room = x .room;
-        first = omega arith;
-        most = omega arith;
-        off = λ k i j e. elim (ℕ-discrete k r) [
-          | yes q ↦ rw q d
-          | no q ↦
-              let f = rw (ne-eqb k r q) at (x .bits k (omega (arith, z .most))) in
-              s .off k i j (sym f ∙ e)
-        ];
-        below = λ k i j q. elim (ℕ-discrete k r) [
-          | yes e ↦ rw e d
-          | no e ↦ idle-below k i j (omega arith)
-        ];
-      }
-
-  module _ {v n : ℕ} (s : Trying limited t c m v n) where
-    pub trying-on : n ≤ 8 → passes limited t c v n ≡ false → Trying limited t c m v (n + 1)
-    trying-on h e = record {
-      rested = s .rested;
-      most = s .most;
-      lowest = omega arith;
-      highest = omega arith;
-      tried = λ j p q. elim (ℕ-discrete j n) [
-        | yes i ↦ rw i e
-        | no i ↦ s .tried j p (omega arith)
+    -- no rule is due there, and it is struck
+    pub struck-on : NoneDue t c v → {m′ : List ℕ} → Struck m v m′ → DueListed t c m′
+    struck-on d x = record {
+      agenda = x .agenda;
+      zero = (rw (ne-eqb 0 v (λ e. omega (arith, slot-first))) at (x .bits 0 (omega arith))) ∙ s .zero;
+      off = λ k i j e. elim (ℕ-discrete k v) [
+        | yes q ↦ rw q d
+        | no q ↦ s .off k i j (sym (rw (ne-eqb k v q) at (x .bits k (omega arith))) ∙ e)
       ];
     }
 
-    pub trying-hit : n ≤ 8 → passes limited t c v n ≡ true → Found limited t c m (At v n)
-    trying-hit h e = record {
-      is = sym (slots-at (passes limited t c) c 1 v n (s .rested .first) (omega (arith, s .most))
-          (λ i p q. s .rested .below i p (omega (arith, s .most)) q) (s .lowest) h (s .tried) e);
-      stopped = record { first = s .rested .first; most = s .most; due = e; rested = s .rested };
-    }
+-- at slot v and at rule n
+pub record Trying (t : List ℕ) (c : ℕ) (v n : ℕ) : Type 0 where
+  pub lowest : 1 ≤ n
+  pub highest : n ≤ 9
+  pub tried : (j : ℕ) → 1 ≤ j → j < n → passes true t c v j ≡ false
 
-    -- none of the eight passes
-    pub trying-end : 8 < n → Idle limited t c v
-    trying-end h j p q = s .tried j p (omega arith)
+pub trying-start : (t : List ℕ) (c v : ℕ) → Trying t c v 1
+trying-start t c v = record { lowest = omega arith; highest = omega arith; tried = λ j p q. absurd (omega arith) }
 
--- no rule may pass at v
-pub calm-idle : (limited : Bool) (t : List ℕ) (c v : ℕ) {b : Bool} → b ≡ stirsAt t c v → b ≡ false → Idle limited t c v
-calm-idle limited t c v e f = λ n p q. none-passes t c v (sym e ∙ f) limited n
+module _ {t : List ℕ} {c v n : ℕ} (y : Trying t c v n) where
+  pub trying-on : n ≤ 8 → passes true t c v n ≡ false → Trying t c v (n + 1)
+  trying-on h e = record {
+    lowest = omega arith;
+    highest = omega arith;
+    tried = λ j p q. elim (ℕ-discrete j n) [ yes i ↦ rw i e | no i ↦ y .tried j p (omega arith) ];
+  }
 
--- every slot is on at first
-pub all-on : {limited : Bool} {t : List ℕ} {c : ℕ} → Sized t c
-    → Rested limited t c (replicate 64 18446744073709551615) 1
-all-on z = record {
-  room = length-replicate {A = ℕ} 64 18446744073709551615;
-  first = omega arith;
-  most = omega arith;
-  off = λ k i j e. absurd (omega (arith, all-marks k (omega (arith, z .most))));
-  below = λ k i j l. absurd (omega arith);
-}
+  -- none of the eight is due
+  pub trying-end : 8 < n → NoneDue t c v
+  trying-end h j p q = y .tried j p (omega arith)
+
+-- no number of an unknown rule passes
+pub unknown-not : (t : List ℕ) (c v n : ℕ) → ruleOf n ≡ rule-is.Unknown → passes true t c v n ≡ false
+unfolding passes
+unknown-not t c v n e = rw e refl
+
+-- a rule that passes is due
+passes-due : (t : List ℕ) (c v n : ℕ) {r : Rule} → ruleOf n ≡ rule-is.Known r → passes true t c v n ≡ true
+    → dueAt t c r v ≡ true
+unfolding passes
+passes-due t c v n e d = rw e at d
+
+nodes-present : (t : List ℕ) (c : ℕ) (r : Rule) (v : ℕ) → dueAt t c r v ≡ true → present c (nodesAt t r rootLink v) ≡ true
+unfolding dueAt holdsAt
+nodes-present t c r v d = and-l _ _ (and-l _ _ d)
+
+-- the first that is due, with its nodes
+module _ {t : List ℕ} {c : ℕ} {h m : List ℕ} (w : Whole t c) (o : Holds t c h) (s : DueListed t c m) {v : ℕ} (l : Lowest m v)
+    (most : v ≤ c) {n : ℕ} (y : Trying t c v n) (small : n ≤ 8) {r : Rule} (e : ruleOf n ≡ rule-is.Known r)
+    (d : passes true t c v n ≡ true) where
+  first : 1 ≤ v
+  first = slot-first s l most (w .sized .most)
+
+  abbrev due-here : Due t c v n
+  due-here = record { rule = r; is = e; first = first; most = most; due = passes-due t c v n e d }
+
+  pub here-present : {x : Slot} → x ≡ slotAt t v → Present t c r v x
+  here-present q = record { sized = w .sized; is = q; there = nodes-present t c r v (due-here .due) }
+
+  pub next-here : {k : Link} {x : Nodes} → k ≡ linkOf (getD h v 0) → x ≡ nodesAt t r k v → NextAt t c m v n r x
+  unfolding nextOf
+  next-here q z = record {
+    next = order-at (passes true t c) c 1 v n first (omega (arith, most))
+        (λ i p f. none-below s l i p (omega (arith, most)) f) (y .lowest) small (y .tried) d;
+    due = due-here;
+    rule = refl;
+    nodes = rw (q ∙ link-noted w due-here o) at z;
+    listed = s;
+  }

@@ -1,4 +1,5 @@
 -- What the functions of `tidy` cite beside `scope`.
-pub mod Found
-pub mod Roused
-pub mod Running
+pub mod Reviewed
+pub mod Coming
+pub mod Firing
+pub mod Run

@@ -1,2 +1,2 @@
--- What the functions of `agenda` promise.
+-- What the functions of the agenda promise.
 pub mod Agenda

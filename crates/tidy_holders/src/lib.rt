@@ -5,5 +5,6 @@ pub mod pass;
 
 pub use entry::above;
 pub use entry::link;
-pub use moves::moved;
+pub use moves::turned;
+pub use moves::turned_twice;
 pub use pass::fill;

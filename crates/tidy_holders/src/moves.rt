@@ -1,12 +1,9 @@
 // What a firing moves: the slots whose link it writes.
 use crate::entry::note;
-use scope::Kind;
 use scope::Nodes;
-use scope::Rule;
 use scope::Side;
 ghost use Rattle.scope.specs.Rules.{rotated, rotatedTwice};
 ghost use Rattle.tidy_holders.specs.Holds.{Entries, Moving, noted, topNoted, lowNoted};
-ghost use Rattle.scope.specs.Rules.{action};
 
 // u takes v's link, v hangs at u's far side, and u's old far son at v's near one.
 pub fn turned(h: &mut [u32; 4096], n: Nodes, near: Side)
@@ -43,25 +40,11 @@ pub fn twice_sons(h: &mut [u32; 4096], n: Nodes, near: Side)
     note(h, words::son(n.sw, far), n.v, near);
 }
 
+// Both.
 pub fn turned_twice(h: &mut [u32; 4096], n: Nodes, near: Side)
     requires { ⌜ Moving (now h) n near ⌝ }
     ensures { λ _. ⌜ Entries (noted (rotatedTwice near n) (now (h .entry))) (now (h .exit)) ⌝ }
 {
     twice_top(h, n, near);
     twice_sons(h, n, near);
-}
-
-// The entries after a rule has fired at its nodes.
-pub fn moved(h: &mut [u32; 4096], r: Rule, n: Nodes)
-    requires { ⌜ Moving (now h) n (r .side) ⌝ }
-    ensures { λ _. ⌜ Entries (noted (action (r .kind) (r .side) n) (now (h .entry))) (now (h .exit)) ⌝ }
-{
-    let kind = r.kind;
-    let near = r.side;
-    match kind {
-        Kind::Propagate => {}
-        Kind::Lean => turned(h, n, near),
-        Kind::Even => turned(h, n, near),
-        Kind::Double => turned_twice(h, n, near),
-    }
 }

@@ -1,3 +1,3 @@
--- Laws of what a rule sees.
+-- Laws of what the rules see.
 pub mod Sights
-pub mod Calm
+pub mod Unlisted

@@ -1,3 +1,3 @@
--- What a rule sees at a slot, and whether any may pass there.
+-- What the rules see at a slot, and whether any may be due there.
+pub mod MayBeDue
 pub mod Sight
-pub mod Stirring

@@ -1,8 +1,10 @@
-// What a rule sees at a slot, and whether it passes there: its guard, and the height limit where that is asked for.
-pub mod stir;
-pub mod test;
+// What the rules see at a slot: whether any may be due there, whether one is, and its nodes.
+pub mod quick;
+pub mod sight;
 
-pub use stir::stirs;
-pub use test::Sight;
-pub use test::look;
-pub use test::passes;
+pub use quick::may_be_due;
+pub use sight::Sight;
+pub use sight::due;
+pub use sight::look;
+pub use sight::nodes;
+pub use sight::on_side;

@@ -86,9 +86,9 @@ module _ {t : List ℕ} {c : ℕ} (z : Sized t c) (k x : ℕ) (p : Part) where
   put-sized = record { room = simp length-set (z .room); some = z .some; most = z .most }
 
 -- all of them lie in a table of c slots
-abbrev pub Inside : ℕ → List Edit → Type 0
-Inside c [] = Unit {0}
-Inside c (e ∷ es) = (e .slot ≤ c) × Inside c es
+abbrev pub EditsInside : ℕ → List Edit → Type 0
+EditsInside c [] = Unit {0}
+EditsInside c (e ∷ es) = (e .slot ≤ c) × EditsInside c es
 
 -- what several edits leave
 pub record Rewritten (t t′ : List ℕ) (c : ℕ) (es : List Edit) : Type 0 where
@@ -97,7 +97,7 @@ pub record Rewritten (t t′ : List ℕ) (c : ℕ) (es : List Edit) : Type 0 whe
   pub root : word t′ rootWord ≡ rooted es (word t rootWord)
   pub head : (i : ℕ) → 1 ≤ i → i < 4 → word t′ i ≡ word t i
 
-pub rewritten : {t : List ℕ} {c : ℕ} → Sized t c → (es : List Edit) → Inside c es
+pub rewritten : {t : List ℕ} {c : ℕ} → Sized t c → (es : List Edit) → EditsInside c es
     → Rewritten t (written t (writes es)) c es
 unfolding written writes edited rooted
 rewritten z [] i = record { sized = z; slots = λ k h. refl; root = refl; head = λ i h l. refl }

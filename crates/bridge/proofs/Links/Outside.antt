@@ -17,7 +17,7 @@ use Rattle.spelling.proofs.Laws.{link-son}
 use Rattle.scope.specs.Edits.{sonOn, Edit, edit}
 use Rattle.bridge.specs.Edit.{edited, rooted}
 use Rattle.bridge.specs.Below.{slotRelinked}
-use Rattle.bridge.proofs.Links.Edited.{Inside, Rewritten}
+use Rattle.bridge.proofs.Links.Edited.{EditsInside, Rewritten}
 use Rattle.bridge.proofs.Links.Looks.{same-son}
 
 pub same-one : (j k : ℕ) → j ≡ k → same j k ≡ 1
@@ -52,7 +52,7 @@ InTree c S [] = Unit {0}
 InTree c S (e ∷ es) = StandsIn c S (e .slot) × InTree c S es
 
 module _ (c : ℕ) (S : Tree) where
-  pub in-inside : (es : List Edit) → InTree c S es → Inside c es
+  pub in-inside : (es : List Edit) → InTree c S es → EditsInside c es
   in-inside [] i = tt
   in-inside (e ∷ es) i = (i .0 .most, in-inside es (i .1))
 

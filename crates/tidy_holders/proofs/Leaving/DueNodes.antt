@@ -8,22 +8,21 @@ use lib.Dec.{leb, eqb}
 use lib.ListN.{getD}
 use borrow.Author.Tests.{leb-true, eqb-false, not-true}
 use Rattle.scope.proofs.Bools.{and-l, and-r}
-use Rattle.scope.specs.Numbers.{other, ruleOf}
+use Rattle.scope.specs.Numbers.{other}
 use Rattle.scope.specs.Table.{word, slotAt, son, linkAt, written}
-use Rattle.scope.specs.Rules.{actionAt}
-use Rattle.scope.specs.Tidy.{nodesAt, present, dueAt, passes, firedAt, linkTo}
+use Rattle.scope.specs.Rules.{action, actionAt}
+use Rattle.scope.specs.Tidy.{nodesAt, present, firedAt, linkTo}
 use Rattle.scope.specs.declared.side.Side.{Side}
 use Rattle.scope.specs.declared.side.Link.{Link}
 use Rattle.scope.specs.declared.rule.Rule.{Rule}
-use Rattle.scope.specs.declared.rule.RuleIs.the-variants as rule-is
 use Rattle.scope.specs.declared.outcome.Nodes.{Nodes}
 use Rattle.spelling.specs.Whole.{Whole}
+use Rattle.bridge.specs.Due.{Due}
 use Rattle.bridge.proofs.Firing.Calls.{LinkIn}
 use Rattle.bridge.proofs.Resting.Linked.{link-to}
 use Rattle.bridge.proofs.Resting.Meets.{due-meets, v-some}
 use Rattle.tidy_holders.specs.Codes.{linkOf, aboveOf}
 use Rattle.tidy_holders.specs.Holds.{Holds, Moving, noted}
-use Rattle.scope.specs.Rules.{action}
 use Rattle.tidy_holders.specs.Away.{Elsewhere, Unnoted}
 use Rattle.tidy_holders.proofs.Noting.Links.{code-link, son-in, held-son, held-most}
 use Rattle.tidy_holders.proofs.Noting.Fired.{fired-holds, fired-whole}
@@ -35,24 +34,21 @@ use Rattle.tidy_holders.proofs.Leaving.Upward.{Record, noted-at, above-
 named : (c k : ℕ) → (not (eqb k 0) && leb k c) ≡ true → (1 ≤ k) × (k ≤ c)
 named c k e = (omega (arith, eqb-false k 0 (not-true _ (and-l _ _ e))), leb-true k c (and-r (not (eqb k 0)) _ e))
 
--- rule r, of number n, is due at slot v
-module _ {t : List ℕ} {c : ℕ} (wh : Whole t c) (v n : ℕ) (first : 1 ≤ v) (most : v ≤ c) (d : passes true t c v n ≡ true)
-    {r : Rule} (e : ruleOf n ≡ rule-is.Known r) where
+module _ {t : List ℕ} {c : ℕ} (wh : Whole t c) {v n : ℕ} (d : Due t c v n) where
+  abbrev r : Rule
+  r = d .rule
+
   abbrev link : Link
   link = linkTo t c v
 
   abbrev nodes : Nodes
   nodes = nodesAt t r link v
 
-  due : dueAt t c r v ≡ true
-  unfolding passes
-  due = rw e at d
-
   there : present c nodes ≡ true
-  there = due-meets due .there
+  there = due-meets (d .due) .there
 
   pub linked : LinkIn c link × (word t (linkAt link) ≡ v)
-  linked = link-to wh v first most (v-some (due-meets due))
+  linked = link-to wh v (d .first) (d .most) (v-some (due-meets (d .due)))
 
   at-u : (1 ≤ nodes .u) × (nodes .u ≤ c)
   at-u = named c (nodes .u) (and-r (not (eqb (nodes .sv .state) 0)) _ (and-l _ _ there))
@@ -63,27 +59,27 @@ module _ {t : List ℕ} {c : ℕ} (wh : Whole t c) (v n : ℕ) (first : 1 ≤ v)
       (and-r (not (eqb (nodes .sv .state) 0) && (not (eqb (nodes .u) 0) && leb (nodes .u) c)) _ there)
 
   pub node-slots : AreSlots nodes
-  node-slots = record { v = first; u = at-u .0; w = at-w .0 }
+  node-slots = record { v = d .first; u = at-u .0; w = at-w .0 }
 
   pub nodes-lie : Lies c nodes
-  nodes-lie = record { holder = linked .0 .most; v = most; u = at-u .1; w = at-w .1 }
+  nodes-lie = record { holder = linked .0 .most; v = d .most; u = at-u .1; w = at-w .1 }
 
   son-most : (k : ℕ) (s : Side) → 1 ≤ k → k ≤ c → son (slotAt t k) s ≤ 4095
   son-most k s i j = omega (arith, rw (held-son t k s i) at (held-most wh _ (son-in k s i j)), wh .sized .most)
 
   pub fired-is : firedAt t c v n ≡ written t (actionAt r nodes)
   unfolding firedAt
-  fired-is = rw e refl
+  fired-is = rw (d .is) refl
 
   -- THE TABLE IS SOUND AGAIN
   pub whole-again : Whole (firedAt t c v n) c
-  whole-again = rw fired-is (fired-whole wh r v first most due)
+  whole-again = rw fired-is (fired-whole wh r v (d .first) (d .most) (d .due))
 
   module _ {h : List ℕ} (o : Holds t c h) where
     -- THE LINK THAT IS NOTED is the one that is looked up
     pub link-noted : linkOf (getD h v 0) ≡ link
     link-noted =
-        let p = rw (linked .1) at (noted-at o link (linked .0) (rw (linked .1) first)) in
+        let p = rw (linked .1) at (noted-at o link (linked .0) (rw (linked .1) (d .first))) in
         ap linkOf p ∙ code-link (link .holder) (link .side)
 
     -- EVERY SLOT IS NOTED WHERE IT HANGS AGAIN
@@ -94,11 +90,11 @@ module _ {t : List ℕ} {c : ℕ} (wh : Whole t c) (v n : ℕ) (first : 1 ≤ v)
 
     -- a slot that is not put on is away from the firing
     pub away : (x : ℕ) → 1 ≤ x → x ≤ c → Unnoted h nodes x → Elsewhere t nodes x
-    away = unnoted-away o link (linked .0) (rw (linked .1) first) nodes refl (sym (linked .1))
+    away = unnoted-away o link (linked .0) (rw (linked .1) (d .first)) nodes refl (sym (linked .1))
 
     -- the two slots above v
     pub above-one : Record t c (aboveOf h v)
-    above-one = above-record wh o v (record { first = first; most = most; some = v-some (due-meets due) })
+    above-one = above-record wh o v (record { first = d .first; most = d .most; some = v-some (due-meets (d .due)) })
 
     pub above-two : Record t c (aboveOf h (aboveOf h v))
     above-two = above-record wh o (aboveOf h v) above-one
@@ -107,7 +103,7 @@ module _ {t : List ℕ} {c : ℕ} (wh : Whole t c) (v n : ℕ) (first : 1 ≤ v)
     may-move = record {
       room = o .room;
       holder = omega (arith, nodes-lie .holder, wh .sized .most);
-      v-most = omega (arith, most, wh .sized .most);
+      v-most = omega (arith, d .most, wh .sized .most);
       u-most = omega (arith, at-u .1, wh .sized .most);
       w-most = omega (arith, at-w .1, wh .sized .most);
       u-far = son-most (nodes .u) (other (r .side)) (at-u .0) (at-u .1);

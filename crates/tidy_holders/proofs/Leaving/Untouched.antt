@@ -17,7 +17,7 @@ use Rattle.scope.specs.declared.outcome.Nodes.{Nodes}
 use Rattle.spelling.specs.Ready.{Sized}
 use Rattle.scope.specs.Edits.{Part, sonOn, registerOn, Edit}
 use Rattle.bridge.specs.Edit.{shape, withPart, edited}
-use Rattle.bridge.proofs.Links.Edited.{Inside, Rewritten, rewritten}
+use Rattle.bridge.proofs.Links.Edited.{EditsInside, Rewritten, rewritten}
 use Rattle.bridge.proofs.Links.Outside.{Away, edited-away}
 use Rattle.scope.specs.Rules.{action}
 use Rattle.tidy_holders.specs.Away.{NoNode}
@@ -75,7 +75,7 @@ pub record Lies (c : ℕ) (n : Nodes) : Type 0 where
   pub u : n .u ≤ c
   pub w : n .w ≤ c
 
-pub inside-there : (c : ℕ) (s : Side) (n : Nodes) → Lies c n → (k : Kind) → Inside c (action k s n)
+pub inside-there : (c : ℕ) (s : Side) (n : Nodes) → Lies c n → (k : Kind) → EditsInside c (action k s n)
 inside-there c s n a Propagate = (a .v, tt)
 inside-there c s n a Lean = (a .holder, (a .u, (a .v, (a .v, (a .u, tt)))))
 inside-there c s n a Even = (a .holder, (a .u, (a .v, (a .v, (a .u, tt)))))

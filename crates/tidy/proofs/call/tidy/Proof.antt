@@ -1,11 +1,9 @@
--- `tidy::call::tidy` meets its contract. Assumes nothing.
-use mathlib.Core.Path.{sym, _∙_, ap}
-use native.Mathlib.Omega.{arith}
-use denote.Ref.{now}
 use borrow.Author.Needs.{needs}
+use mathlib.Core.Path.{sym, _∙_, ap}
+use denote.Ref.{now}
+use Rattle.scope.specs.Answers.{Done}
 use Rattle.spelling.proofs.Opened.{opened}
 use Rattle.tidy.proofs.Outcome.{tidy-shut, tidy-open}
-use Rattle.scope.specs.Answers.{Done}
 use Rattle.tidy.proofs.call.tidy.Statement.{statement}
 use Rattle.tidy.proofs.call.tidy.Tie as tie
 
@@ -21,41 +19,30 @@ refuse-requires c κs = search needs
 enum-known-c : tie.Need-enum-known-c
 enum-known-c c = search needs
 
-change-requires : tie.Need-change-requires
-change-requires c κs = let s = opened (now (c .before .before .before .before .before .before .before .args .t)) _ _ (c .before .before .before .before .enter-sound .ensures) (c .before .before .c .given .1) .sized in omega (arith, s .room)
-
-long-requires : tie.Need-long-requires
-long-requires c κs = search needs
-
-run-requires : tie.Need-run-requires
-run-requires c κs = opened (now (c .before .before .before .before .before .before .before .before .before .before .args .t)) _ _ (c .before .before .before .before .before .before .before .enter-sound .ensures) (c .before .before .before .before .before .c .given .1)
-
-long-requires-2 : tie.Need-long-requires-2
-long-requires-2 c κs = search needs
-
-rest-requires : tie.Need-rest-requires
-rest-requires c κs = search needs
-
-accept-requires : tie.Need-accept-requires
-accept-requires c κs = search needs
+tidied-requires : tie.Need-tidied-requires
+tidied-requires c κs =
+    let a = c .before .before .before .before in
+    opened (now (a .before .before .before .args .t)) _ _ (a .enter-sound .ensures) (c .before .before .c .given .1)
 
 same-length : tie.Need-same-length
 same-length c = search needs
 
 returns : tie.Need-returns
-returns c = let a = c .before .before .before .before .before .before .before .args in
-    let e = sym (tidy-shut (now (a .t)) (a .budget) (sym (c .before .before .before .before .enter-sound .ensures) ∙ c .before .before .why .given .1)) in
+returns c =
+    let b = c .before .before .before .before in
+    let a = b .before .before .before .args in
+    let e = sym (tidy-shut (now (a .t)) (a .budget) (sym (b .enter-sound .ensures) ∙ c .before .before .why .given .1)) in
     (c .refuse .ensures ∙ ap (λ (d : Done). d .answer) e, ap (λ (d : Done). d .words) e)
 
 same-length-2 : tie.Need-same-length-2
 same-length-2 c = search needs
 
 returns-2 : tie.Need-returns-2
-returns-2 c = let a = c .before .before .before .before .before .before .before .before .before .before .before .before .before .before .before .before .before .args in
-    let e = sym (tidy-open (now (a .t)) (a .budget) (sym (c .before .before .before .before .before .before .before .before .before .before .before .before .before .before .enter-sound .ensures) ∙ c .before .before .before .before .before .before .before .before .before .before .before .before .c .given .1) (c .before .before .before .before .before .before .run .ensures)) in (
-      c .accept .ensures ∙ simp (c .before .rest .ensures, c .before .before .before .long2 .ensures, c .before .before .before .before .before .before .before .before .long .ensures, c .before .before .before .before .before .before .before .before .before .change .ensures) (ap (λ (d : Done). d .answer) e),
-      ap (λ (d : Done). d .words) e,
-    )
+returns-2 c =
+    let b = c .before .before .before .before .before .before .before in
+    let a = b .before .before .before .args in
+    let e = sym (b .enter-sound .ensures) ∙ c .before .before .before .before .before .c .given .1 in
+    tidy-open (now (a .t)) (a .budget) e (c .before .before .tidied .ensures)
 
 pub tidy-spec : {M : Type 1} → statement M
 tidy-spec =
@@ -65,12 +52,7 @@ tidy-spec =
     enum-known-why
     refuse-requires
     enum-known-c
-    change-requires
-    long-requires
-    run-requires
-    long-requires-2
-    rest-requires
-    accept-requires
+    tidied-requires
     same-length
     returns
     same-length-2

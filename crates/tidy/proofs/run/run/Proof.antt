@@ -1,20 +1,80 @@
--- `tidy::run::run` meets its contract. Assumes nothing.
-use Rattle.tidy.proofs.Scanning.{all-on}
+use Prim.Native.Nat.{_-_}
+use native.Mathlib.Omega.{arith}
 use borrow.Author.Needs.{needs}
+use Rattle.tidy.proofs.Going.{Going, going-start, going-none, going-spent, going-fire, going-on}
 use Rattle.tidy.proofs.run.run.Statement.{statement}
 use Rattle.tidy.proofs.run.run.Tie as tie
 
-fill-requires : tie.Need-fill-requires
-fill-requires c κs = search needs
+abbrev Inv-loop : tie.InvT-loop
+Inv-loop t₀ c h₀ m₀ budget made₀ t h m made = Going t₀ c budget t h m made
 
-run-on-requires : tie.Need-run-on-requires
-run-on-requires c κs = let w = c .before .before .before .before .before .before .before .pre in record { whole = w; holds = c .before .before .before .fill .ensures; rested = all-on (w .sized) }
+abbrev μ-loop : tie.MeasureT-loop
+μ-loop t₀ c h₀ m₀ budget made₀ t h m made = budget - made
 
-same-length : tie.Need-same-length
-same-length c = search needs
+loop-holds : tie.Need-loop-holds Inv-loop μ-loop
+loop-holds c = going-start (c .before .pre)
 
-returns : tie.Need-returns
-returns c = search needs
+next-requires : tie.Need-next-requires Inv-loop μ-loop
+next-requires c κs = c .before .before .before .loop .inv .running
+
+enum-told : tie.Need-enum-told Inv-loop μ-loop
+enum-told c = search needs
+
+enum-known-r : tie.Need-enum-known-r Inv-loop μ-loop
+enum-known-r c = search needs
+
+fire-requires : tie.Need-fire-requires Inv-loop μ-loop
+fire-requires c κs =
+    let a = c .before .before .before .before .before in
+    let at = rw (a .r .given .1) at (a .before .before .next .ensures) in
+    going-fire (a .before .before .before .before .before .before .loop .inv) at
+
+add-made : tie.Need-add-made Inv-loop μ-loop
+add-made c =
+    let a = c .before .before .before .before .before .before in
+    let b = a .before .before .before .before .before .before .before .before in
+    omega (arith, b .loop .inv .within, a .if1 .left, b .before .before .fits .budget)
+
+loop-less : tie.Need-loop-less Inv-loop μ-loop
+loop-less c =
+    let a = c .before .before .before .before .before .before in
+    omega (arith, a .before .before .before .before .before .before .before .before .loop .inv .within, a .if1 .left)
+
+loop-again : tie.Need-loop-again Inv-loop μ-loop
+loop-again c =
+    let a = c .before .before .before .before .before .before .before .before in
+    let at = rw (a .r .given .1) at (a .before .before .next .ensures) in
+    going-on (a .before .before .before .before .before .before .loop .inv) at (c .before .before .before .before .before .before .if1 .left) (c .before .before .fire .ensures)
+
+same-length : tie.Need-same-length Inv-loop μ-loop
+same-length c = c .before .before .before .before .before .before .loop .inv .same-size
+
+returns : tie.Need-returns Inv-loop μ-loop
+returns c = going-none (c .before .before .before .before .before .before .loop .inv) (rw (c .enum-told .given .1) at (c .before .before .next .ensures))
+
+same-length-2 : tie.Need-same-length-2 Inv-loop μ-loop
+same-length-2 c = c .before .before .before .before .before .before .before .before .loop .inv .same-size
+
+returns-2 : tie.Need-returns-2 Inv-loop μ-loop
+returns-2 c =
+    let at = rw (c .before .before .r .given .1) at (c .before .before .before .before .next .ensures) in
+    going-spent (c .before .before .before .before .before .before .before .before .loop .inv) at (c .if1 .taken)
 
 pub run-spec : {M : Type 1} → statement M
-run-spec = tie.close (tie.spec fill-requires run-on-requires same-length returns)
+run-spec =
+    tie.close
+    (tie.spec
+    Inv-loop
+    μ-loop
+    loop-holds
+    next-requires
+    enum-told
+    enum-known-r
+    fire-requires
+    add-made
+    loop-less
+    loop-again
+    same-length
+    returns
+    same-length-2
+    returns-2)
