@@ -51,6 +51,10 @@ module _ {t : List ℕ} {c : ℕ} (w : Whole t c) where
   unfolding quiet
   quiet-words q = ap nothing (none-found q false)
 
+  pub next-none : Quiet T → nextOf t c ≡ Nothing
+  unfolding nextOf
+  next-none q = none-found q true
+
   -- WHERE NO RULE IS DUE no guard holds
   pub none-due : nextOf t c ≡ Nothing → Quiet T
   unfolding nextOf passes
