@@ -23,7 +23,9 @@ module _ {m : List ℕ} {k : ℕ} {m′ : List ℕ} (s : Struck m k m′) where
   same-below : (n : ℕ) → n < 4097 → (k < n → ⊥) → howMany n m′ ≡ howMany n m
   unfolding howMany
   same-below zero h ne = refl
-  same-below (suc n) h ne = omega (arith, kept n (omega arith) (λ e. ne (omega arith)), same-below n (omega arith) (λ i. ne (omega arith)))
+  same-below (suc n) h ne =
+      let a = kept n (omega arith) (λ e. ne (omega arith)) in
+      omega (arith, a, same-below n (omega arith) (λ i. ne (omega arith)))
 
   one-less : bitAt m k ≡ 1 → (n : ℕ) → n < 4097 → k < n → howMany n m′ + 1 ≡ howMany n m
   unfolding howMany
@@ -35,5 +37,6 @@ module _ {m : List ℕ} {k : ℕ} {m′ : List ℕ} (s : Struck m k m′) where
       ]
 
 -- A SLOT THAT IS STRUCK is one less
-pub fewer : {m : List ℕ} {k : ℕ} {m′ : List ℕ} → Struck m k m′ → k < 4096 → bitAt m k ≡ 1 → howMany 4096 m′ < howMany 4096 m
+pub fewer : {m : List ℕ} {k : ℕ} {m′ : List ℕ} → Struck m k m′ → k < 4096 → bitAt m k ≡ 1
+    → howMany 4096 m′ < howMany 4096 m
 fewer s h on = omega (arith, one-less s on 4096 (omega arith) h)

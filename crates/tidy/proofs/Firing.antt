@@ -26,9 +26,9 @@ use Rattle.tidy_holders.proofs.Noting.Noted.{none-noted}
 use Rattle.tidy_holders.proofs.Leaving.DueNodes.{node-slots, nodes-lie, fired-is, whole-again}
 use Rattle.tidy_holders.proofs.Leaving.DueNodes.{away, holds-again, may-move, above-one, above-two}
 use Rattle.tidy_holders.proofs.Leaving.AsBefore.{as-before}
-use Rattle.tidy_sight.proofs.Unlisted.{none-due}
+use Rattle.tidy_sight.proofs.Unlisted.{may-not-be-due}
 use Rattle.tidy.specs.Reviewed.{SlotIn, Reviewed, looked, passed, Without, Around, NodesReviewed}
-use Rattle.tidy.specs.Firing.{MayAct, Acted, ToFire, Fired}
+use Rattle.tidy.specs.Firing.{MayAct, Acted, ToFire, AfterFiring}
 use Rattle.tidy.proofs.Reviewing.{one-looked, as-without}
 
 -- the action of a rule of this kind, and the links noted
@@ -44,7 +44,8 @@ module _ {t h : List ℕ} {c : ℕ} {r : Rule} {x : Nodes} (p : MayAct t c h r x
       → Acted t h c r x t′ h′
   acted-noted k e a n = record { words = acted (p .sized) (p .within) k e a; entries = rw e n }
 
-low : (t : List ℕ) (c : ℕ) (r : Rule) (v : ℕ) → dueAt t c r v ≡ true → highestAt r (nodesAt t r (linkTo t c v) v) ≤ 65535
+low : (t : List ℕ) (c : ℕ) (r : Rule) (v : ℕ) → dueAt t c r v ≡ true
+    → highestAt r (nodesAt t r (linkTo t c v) v) ≤ 65535
 unfolding dueAt highestAt
 low t c r v d = leb-true _ _ (and-r (holdsAt t c r v) _ d)
 
@@ -141,13 +142,14 @@ module _ {t : List ℕ} {c : ℕ} {h m : List ℕ} {r : Rule} {x : Nodes} (f : T
               is-fired : t′ ≡ firedAt t c (f .slot) (f .number)
               is-fired = rw (f .rule, f .nodes) at (g .words .is) ∙ sym (fired-is (f .running .whole) d)
 
-              still-none : (j : ℕ) → 1 ≤ j → j ≤ c → Unnoted h x j → (n : ℕ) → passes true t′ c j n ≡ passes true t c j n
+              still-none : (j : ℕ) → 1 ≤ j → j ≤ c → Unnoted h x j → (n : ℕ)
+                  → passes true t′ c j n ≡ passes true t c j n
               still-none j i l z n =
                   rw is-fired
                   (as-before (f .running .whole) d j i l
                   (away (f .running .whole) d (f .running .holds) j i l (rw (f .nodes) at z)) true n)
 
-              pub fired-so : Fired t c r x t′ h′ m₃
+              pub fired-so : AfterFiring t c r x t′ h′ m₃
               fired-so = record {
                 is = g .words .is;
                 running = record {
@@ -159,7 +161,7 @@ module _ {t : List ℕ} {c : ℕ} {h m : List ℕ} {r : Rule} {x : Nodes} (f : T
                     zero = around .zero (f .running .listed .zero);
                     off = λ j i l e.
                         elim (around .off j (omega (arith, f .running .whole .sized .most)) e) [
-                          | looked z ↦ λ n p q. none-due t′ c j z n
+                          | looked z ↦ λ n p q. may-not-be-due t′ c j z n
                           | passed z o ↦ λ n p q. still-none j i l z n ∙ f .running .listed .off j i l o n p q
                         ];
                   };

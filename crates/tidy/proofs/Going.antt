@@ -17,15 +17,15 @@ use Rattle.bridge.proofs.Resting.Quiets.{quiet-tree}
 use Rattle.bridge.proofs.Resting.Rests.{none-due, quiet-words, next-none}
 use Rattle.tidy_holders.proofs.Leaving.DueNodes.{fired-is}
 use Rattle.tidy.specs.Coming.{Running, NextAt}
-use Rattle.tidy.specs.Firing.{ToFire, Fired}
+use Rattle.tidy.specs.Firing.{ToFire, AfterFiring}
 use Rattle.tidy.specs.Run.{Ended}
 
 -- `made` of the budget were fired, and t is the table now, with its notes and its agenda
-pub record Going (t₀ : List ℕ) (c budget : ℕ) (t h m : List ℕ) (made : ℕ) : Type 0 where
+pub record UnderWay (t₀ : List ℕ) (c budget : ℕ) (t h m : List ℕ) (made : ℕ) : Type 0 where
   pub left : tidyFrom (budget - made) c t made ≡ tidyFrom budget c t₀ 0
   pub within : made ≤ budget
   pub running : Running t c h m
-  pub same-size : length t ≡ length t₀
+  pub one-size : length t ≡ length t₀
 
 module _ (c : ℕ) (t : List ℕ) where
   spent : (n k : ℕ) → n ≡ 0 → tidyFrom n c t k ≡ record { fired = k; words = t }
@@ -57,10 +57,10 @@ module _ {t : List ℕ} {c : ℕ} (w : Whole t c) where
       (λ q. let z = next-none w (quiet-tree w q) in never cc)
       (λ q. rw q refl)
 
-pub going-start : {t : List ℕ} {c budget : ℕ} {h m : List ℕ} → Running t c h m → Going t c budget t h m 0
-going-start r = record { left = simp sub-zero; within = omega arith; running = r; same-size = refl }
+pub going-start : {t : List ℕ} {c budget : ℕ} {h m : List ℕ} → Running t c h m → UnderWay t c budget t h m 0
+going-start r = record { left = simp sub-zero; within = omega arith; running = r; one-size = refl }
 
-module _ {t₀ : List ℕ} {c budget : ℕ} {t h m : List ℕ} {made : ℕ} (g : Going t₀ c budget t h m made) where
+module _ {t₀ : List ℕ} {c budget : ℕ} {t h m : List ℕ} {made : ℕ} (g : UnderWay t₀ c budget t h m made) where
   ended : {more : ℕ} → more ≡ cond (quiet t c) 1 0
       → tidyFrom (budget - made) c t made ≡ record { fired = made; words = t }
       → Ended t₀ c budget (record { made = made; more = more }) t
@@ -90,15 +90,17 @@ module _ {t₀ : List ℕ} {c budget : ℕ} {t h m : List ℕ} {made : ℕ} (g :
       nodes = f .nodes;
     }
 
-    pub going-on : (made ≡ budget → ⊥) → {t′ h′ m′ : List ℕ} → Fired t c r x t′ h′ m′
-        → Going t₀ c budget t′ h′ m′ (made + 1)
+    pub going-on : (made ≡ budget → ⊥) → {t′ h′ m′ : List ℕ} → AfterFiring t c r x t′ h′ m′
+        → UnderWay t₀ c budget t′ h′ m′ (made + 1)
     going-on ne k =
-        let is : _ ≡ firedAt t c v n = rw (f .rule, f .nodes) at (k .is) ∙ sym (fired-is (g .running .whole) (f .due)) in
+        let w = g .running .whole in
+        let is : _ ≡ firedAt t c v n = rw (f .rule, f .nodes) at (k .is) ∙ sym (fired-is w (f .due)) in
         record {
           left = ap (λ (y : List ℕ). tidyFrom (budget - (made + 1)) c y (made + 1)) is
-              ∙ sym (one-fired c t (budget - made) (budget - (made + 1)) made v n (omega (arith, ne, g .within)) (f .next))
+              ∙ sym (one-fired c t (budget - made) (budget - (made + 1)) made v n (omega (arith, ne, g .within))
+              (f .next))
               ∙ g .left;
           within = omega (arith, ne, g .within);
           running = k .running;
-          same-size = same-length (g .running .whole .sized) (k .running .whole .sized) ∙ g .same-size;
+          one-size = same-length (g .running .whole .sized) (k .running .whole .sized) ∙ g .one-size;
         }

@@ -10,17 +10,18 @@ use Rattle.scope.specs.Tidy.{quiet, tidied, tidyFrom, tidyOf, tidyAnswer, tidyT
 use Rattle.scope.specs.declared.answer.Answer.{Answer}
 use Rattle.scope.specs.declared.answer.Refusal.{Refusal}
 use Rattle.scope.specs.declared.answer.Gate.the-variants.{Shut, Open}
-use Rattle.tidy.specs.Run.{Ended, Told}
+use Rattle.tidy.specs.Run.{Ended, TidiedSo}
 use Rattle.tidy.specs.declared.run.End.{End}
 
 -- the answer of a run
 pub told-so : (t : List ℕ) (c budget : ℕ) {e : End} {u : List ℕ} {a : Answer} {change made : ℕ} → Ended t c budget e u
     → change ≡ word t changeWord → made ≡ e .made → a ≡ accepted change made (e .more) 0
-    → Told t c budget a u
+    → TidiedSo t c budget a u
 unfolding tidied
 told-so t c budget {e} {change = change} {made = made} r p q s =
     let w = tidyFrom budget c t 0 in
-    let same : accepted change made (e .more) 0 ≡ accepted (word t changeWord) (w .fired) (cond (quiet (w .words) c) 1 0) 0
+    let more : ℕ = cond (quiet (w .words) c) 1 0 in
+    let same : accepted change made (e .more) 0 ≡ accepted (word t changeWord) (w .fired) more 0
     = rw (p, q, r .count, r .rests, r .words) refl in
     record { answer = s ∙ same; words = r .words }
 
@@ -29,7 +30,7 @@ module _ (t : List ℕ) (budget : ℕ) where
   unfolding tidyOf
   tidy-shut e = simp e
 
-  pub tidy-open : {c : ℕ} {a : Answer} {u : List ℕ} → soundGate t true ≡ Open c → Told t c budget a u
+  pub tidy-open : {c : ℕ} {a : Answer} {u : List ℕ} → soundGate t true ≡ Open c → TidiedSo t c budget a u
       → (a ≡ tidyAnswer t budget) × (u ≡ tidyTable t budget)
   unfolding tidyOf
   tidy-open {c} e r =

@@ -14,13 +14,13 @@ use Rattle.marks.specs.Marks.{bitAt}
 use Rattle.marks.proofs.Passing.{none-on}
 use Rattle.tidy_agenda.specs.Agenda.{Agenda, BitPut}
 use Rattle.tidy_sight.specs.MayBeDue.{mayBeDue}
-use Rattle.tidy_sight.proofs.Unlisted.{none-due}
+use Rattle.tidy_sight.proofs.Unlisted.{may-not-be-due}
 use Rattle.tidy.specs.Reviewed.{Reviewed, looked, passed, Without, NodesReviewed, AllReviewed}
 use Rattle.tidy.specs.Coming.{DueListed}
 
 -- listed or struck by the test
-pub by-test : (t : List ℕ) (c : ℕ) {m : List ℕ} {k : ℕ} {m′ : List ℕ} {b d : Bool} → b ≡ mayBeDue t c (slotAt t k) → b ≡ d
-    → BitPut (cond d 1 0) m k m′ → Reviewed t c m k m′
+pub by-test : (t : List ℕ) (c : ℕ) {m : List ℕ} {k : ℕ} {m′ : List ℕ} {b d : Bool}
+    → b ≡ mayBeDue t c (slotAt t k) → b ≡ d → BitPut (cond d 1 0) m k m′ → Reviewed t c m k m′
 by-test t c e f p = rw (← e, f) p
 
 told : (b : Bool) → _≡_ {A = ℕ} (cond b 1 0) 0 → b ≡ false
@@ -66,9 +66,9 @@ module _ {t : List ℕ} {c : ℕ} where
     three-looked l r = as-without (one-looked two l r) (λ k z. record { v = z .0 .0 .1; u = z .0 .1; w = z .1 })
 
   -- every slot in turn
-  pub all-on : {m : List ℕ} {k : ℕ} → AllReviewed t c m k → 1 ≤ k → c ≤ 4095 → {m′ : List ℕ} → Reviewed t c m k m′
+  pub all-further : {m : List ℕ} {k : ℕ} → AllReviewed t c m k → 1 ≤ k → c ≤ 4095 → {m′ : List ℕ} → Reviewed t c m k m′
       → AllReviewed t c m′ (k + 1)
-  all-on {m} {k} s i l r = record {
+  all-further {m} {k} s i l r = record {
     agenda = r .agenda;
     zero = (rw (ne-eqb 0 k (λ e. omega arith)) at (r .bits 0 (omega arith))) ∙ s .zero;
     off = λ j f g h e. elim (ℕ-discrete j k) [
@@ -85,7 +85,7 @@ module _ {t : List ℕ} {c : ℕ} where
   all-listed s = record {
     agenda = s .agenda;
     zero = s .zero;
-    off = λ k i j e n p q. none-due t c k (s .off k i j (omega arith) e) n;
+    off = λ k i j e n p q. may-not-be-due t c k (s .off k i j (omega arith) e) n;
   }
 
 -- an agenda that lists none
@@ -103,7 +103,8 @@ pub all-start : (t : List ℕ) (c : ℕ) → AllReviewed t c (replicate 65 0) 1
 all-start t c = record {
   agenda = record {
     room = length-replicate {A = ℕ} 65 0;
-    top = λ i h. bit-zero (4096 + i) (omega arith) ∙ ap (λ (w : ℕ). cond (eqb w 0) 0 1) (sym (word-zero i (omega arith)));
+    top = λ i h. bit-zero (4096 + i) (omega arith)
+        ∙ ap (λ (w : ℕ). cond (eqb w 0) 0 1) (sym (word-zero i (omega arith)));
   };
   zero = bit-zero 0 (omega arith);
   off = λ k i j h e. absurd (omega arith);

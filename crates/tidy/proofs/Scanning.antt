@@ -22,8 +22,8 @@ use Rattle.bridge.specs.Due.{Due}
 use Rattle.marks.specs.Marks.{bitAt}
 use Rattle.tidy_agenda.specs.Agenda.{Struck, Lowest}
 use Rattle.tidy_sight.specs.Sight.{Present}
-use Rattle.tidy_holders.specs.Codes.{linkOf}
-use Rattle.tidy_holders.specs.Holds.{Holds}
+use Rattle.tidy_holders.specs.Codes.{linkNumbered}
+use Rattle.tidy_holders.specs.Holds.{AllNoted}
 use Rattle.tidy_holders.proofs.Leaving.DueNodes.{link-noted}
 use Rattle.tidy.specs.Coming.{NoneDue, DueListed, NextAt}
 use Rattle.tidy.proofs.Order.{order-none, order-at}
@@ -91,14 +91,15 @@ passes-due : (t : List ℕ) (c v n : ℕ) {r : Rule} → ruleOf n ≡ rule-is.Kn
 unfolding passes
 passes-due t c v n e d = rw e at d
 
-nodes-present : (t : List ℕ) (c : ℕ) (r : Rule) (v : ℕ) → dueAt t c r v ≡ true → present c (nodesAt t r rootLink v) ≡ true
+nodes-present : (t : List ℕ) (c : ℕ) (r : Rule) (v : ℕ) → dueAt t c r v ≡ true
+    → present c (nodesAt t r rootLink v) ≡ true
 unfolding dueAt holdsAt
 nodes-present t c r v d = and-l _ _ (and-l _ _ d)
 
 -- the first that is due, with its nodes
-module _ {t : List ℕ} {c : ℕ} {h m : List ℕ} (w : Whole t c) (o : Holds t c h) (s : DueListed t c m) {v : ℕ} (l : Lowest m v)
-    (most : v ≤ c) {n : ℕ} (y : Trying t c v n) (small : n ≤ 8) {r : Rule} (e : ruleOf n ≡ rule-is.Known r)
-    (d : passes true t c v n ≡ true) where
+module _ {t : List ℕ} {c : ℕ} {h m : List ℕ} (w : Whole t c) (o : AllNoted t c h) (s : DueListed t c m)
+    {v : ℕ} (l : Lowest m v) (most : v ≤ c) {n : ℕ} (y : Trying t c v n) (small : n ≤ 8) {r : Rule}
+    (e : ruleOf n ≡ rule-is.Known r) (d : passes true t c v n ≡ true) where
   first : 1 ≤ v
   first = slot-first s l most (w .sized .most)
 
@@ -108,7 +109,7 @@ module _ {t : List ℕ} {c : ℕ} {h m : List ℕ} (w : Whole t c) (o : Holds t 
   pub here-present : {x : Slot} → x ≡ slotAt t v → Present t c r v x
   here-present q = record { sized = w .sized; is = q; there = nodes-present t c r v (due-here .due) }
 
-  pub next-here : {k : Link} {x : Nodes} → k ≡ linkOf (getD h v 0) → x ≡ nodesAt t r k v → NextAt t c m v n r x
+  pub next-here : {k : Link} {x : Nodes} → k ≡ linkNumbered (getD h v 0) → x ≡ nodesAt t r k v → NextAt t c m v n r x
   unfolding nextOf
   next-here q z = record {
     next = order-at (passes true t c) c 1 v n first (omega (arith, most))

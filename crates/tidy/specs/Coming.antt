@@ -1,4 +1,4 @@
--- What the scan of `tidy` knows of the slots that are not listed, and what it finds. Assumes nothing: these are statements.
+-- What the scan knows of the slots that are not listed, and what it finds. Assumes nothing: these are statements.
 use Prim.Native.Nat.{ℕ, _≤_}
 use mathlib.Core.Path.{_≡_}
 use mathlib.Core.Bool.{true, false}
@@ -11,7 +11,7 @@ use Rattle.spelling.specs.Whole.{Whole}
 use Rattle.bridge.specs.Due.{Due}
 use Rattle.marks.specs.Marks.{bitAt}
 use Rattle.tidy_agenda.specs.Agenda.{Agenda}
-use Rattle.tidy_holders.specs.Holds.{Holds}
+use Rattle.tidy_holders.specs.Holds.{AllNoted}
 use Rattle.tidy.specs.declared.scan.Coming.{Coming}
 use Rattle.tidy.specs.declared.scan.Coming.the-variants.{At, Nothing}
 
@@ -28,7 +28,7 @@ pub record DueListed (t : List ℕ) (c : ℕ) (m : List ℕ) : Type 0 where
 -- a sound table whose links are noted, with its agenda
 pub record Running (t : List ℕ) (c : ℕ) (h m : List ℕ) : Type 0 where
   pub whole : Whole t c
-  pub holds : Holds t c h
+  pub holds : AllNoted t c h
   pub listed : DueListed t c m
 
 -- rule r, of number n, is next at slot v, and x are its nodes

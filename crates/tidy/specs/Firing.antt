@@ -34,6 +34,6 @@ pub record ToFire (t : List ℕ) (c : ℕ) (h m : List ℕ) (r : Rule) (x : Node
   pub nodes : x ≡ nodesAt t (due .rule) (linkTo t c slot) slot
 
 -- it was fired, and all is kept
-pub record Fired (t : List ℕ) (c : ℕ) (r : Rule) (x : Nodes) (t′ h′ m′ : List ℕ) : Type 0 where
+pub record AfterFiring (t : List ℕ) (c : ℕ) (r : Rule) (x : Nodes) (t′ h′ m′ : List ℕ) : Type 0 where
   pub is : t′ ≡ written t (actionAt r x)
   pub running : Running t′ c h′ m′

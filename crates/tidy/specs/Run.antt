@@ -15,6 +15,6 @@ pub record Ended (t : List ℕ) (c budget : ℕ) (e : End) (u : List ℕ) : Type
   pub rests : e .more ≡ cond (quiet u c) 1 0
 
 -- the five numbers a, and the table u, as defined
-pub record Told (t : List ℕ) (c budget : ℕ) (a : Answer) (u : List ℕ) : Type 0 where
+pub record TidiedSo (t : List ℕ) (c budget : ℕ) (a : Answer) (u : List ℕ) : Type 0 where
   pub answer : a ≡ tidied t c (tidyFrom budget c t 0) .answer
   pub words : u ≡ tidied t c (tidyFrom budget c t 0) .words

@@ -6,12 +6,12 @@ use scope::Gate;
 ghost use mathlib.Core.Path.{_≡_};
 ghost use Rattle.scope.specs.Tidy.{tidyAnswer, tidyTable};
 ghost use Rattle.spelling.specs.Whole.{Whole};
-ghost use Rattle.tidy.specs.Run.{Told};
+ghost use Rattle.tidy.specs.Run.{TidiedSo};
 
 // On a sound table: each slot is noted where it hangs, and listed where a rule may be due.
 pub fn tidied(t: &mut [u32], c: usize, budget: u32) -> Answer
     requires { ⌜ Whole (now t) c ⌝ }
-    ensures { λ a. ⌜ Told (now (t .entry)) c budget a (now (t .exit)) ⌝ }
+    ensures { λ a. ⌜ TidiedSo (now (t .entry)) c budget a (now (t .exit)) ⌝ }
 {
     let change = words::change(t);
     let mut h = [0u32; 4096];

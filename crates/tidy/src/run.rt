@@ -7,7 +7,7 @@ use scope::Kind;
 use scope::Nodes;
 use scope::Rule;
 ghost use Rattle.tidy.specs.Coming.{Running};
-ghost use Rattle.tidy.specs.Firing.{MayAct, Acted, ToFire, Fired};
+ghost use Rattle.tidy.specs.Firing.{MayAct, Acted, ToFire, AfterFiring};
 ghost use Rattle.tidy.specs.Run.{Ended};
 
 // How a run ended: the firings made, and 1 if no guard holds then, else 0.
@@ -17,7 +17,7 @@ pub struct End {
 }
 
 // Writes the action of a rule at its nodes, and notes the links that it writes.
-pub fn act(t: &mut [u32], c: usize, h: &mut [u32; 4096], r: Rule, x: Nodes)
+pub fn act_and_note(t: &mut [u32], c: usize, h: &mut [u32; 4096], r: Rule, x: Nodes)
     requires { ⌜ MayAct (now t) c (now h) r x ⌝ }
     ensures { λ _. ⌜ Acted (now (t .entry)) (now (h .entry)) c r x (now (t .exit)) (now (h .exit)) ⌝ }
 {
@@ -42,14 +42,14 @@ pub fn act(t: &mut [u32], c: usize, h: &mut [u32; 4096], r: Rule, x: Nodes)
 
 // Fires a rule that is due at its nodes, and reviews the slots whose tests that may change: the nodes, and the two
 // holders above them.
-pub fn fire(t: &mut [u32], c: usize, h: &mut [u32; 4096], m: &mut [u64; 65], r: Rule, x: Nodes)
+pub fn fire_next(t: &mut [u32], c: usize, h: &mut [u32; 4096], m: &mut [u64; 65], r: Rule, x: Nodes)
     requires { ⌜ ToFire (now t) c (now h) (now m) r x ⌝ }
-    ensures { λ _. ⌜ Fired (now (t .entry)) c r x (now (t .exit)) (now (h .exit)) (now (m .exit)) ⌝ }
+    ensures { λ _. ⌜ AfterFiring (now (t .entry)) c r x (now (t .exit)) (now (h .exit)) (now (m .exit)) ⌝ }
 {
     let kind = r.kind;
     let above = tidy_holders::above(h, x.v);
     let upper = tidy_holders::above(h, above);
-    act(t, c, h, r, x);
+    act_and_note(t, c, h, r, x);
     review_nodes(t, c, m, kind, x);
     review(t, c, m, above);
     review(t, c, m, upper);
@@ -68,7 +68,7 @@ pub fn run(t: &mut [u32], c: usize, h: &mut [u32; 4096], m: &mut [u64; 65], budg
                 if made == budget {
                     break End { made, more: 0 };
                 }
-                fire(t, c, h, m, r, x);
+                fire_next(t, c, h, m, r, x);
                 made += 1;
             }
         }

@@ -13,15 +13,15 @@ use Rattle.bridge.specs.Leads.{sideNumber}
 abbrev pub linkFor : ℕ → Side → Link
 linkFor k s = record { holder = k; side = s }
 
-unfoldable pub codeOf : Link → ℕ
-codeOf l = 2 * l .holder + sideNumber (l .side)
+unfoldable pub linkNumber : Link → ℕ
+linkNumber l = 2 * l .holder + sideNumber (l .side)
 
-unfoldable pub linkOf : ℕ → Link
-linkOf q = linkFor (q / 2) (cond (eqb (q % 2) 0) Left Right)
+unfoldable pub linkNumbered : ℕ → Link
+linkNumbered q = linkFor (q / 2) (cond (eqb (q % 2) 0) Left Right)
 
 -- the slot that hangs at the link of a number
 unfoldable pub heldAt : List ℕ → ℕ → ℕ
-heldAt t q = word t (linkAt (linkOf q))
+heldAt t q = word t (linkAt (linkNumbered q))
 
 -- the slot that holds slot k by what is noted, or k itself at the root
 unfoldable pub aboveOf : List ℕ → ℕ → ℕ

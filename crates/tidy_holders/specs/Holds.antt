@@ -9,7 +9,7 @@ use Rattle.scope.specs.declared.side.Side.{Side}
 use Rattle.scope.specs.declared.side.Side.the-variants.{Left, Right}
 use Rattle.scope.specs.declared.outcome.Nodes.{Nodes}
 use Rattle.scope.specs.Edits.{Part, sonOn, registerOn, Edit}
-use Rattle.tidy_holders.specs.Codes.{linkFor, codeOf, heldAt}
+use Rattle.tidy_holders.specs.Codes.{linkFor, linkNumber, heldAt}
 
 -- the number of a link of a table of c slots; slot 0 holds one link only
 pub record CodeIn (c q : ℕ) : Type 0 where
@@ -17,7 +17,7 @@ pub record CodeIn (c q : ℕ) : Type 0 where
   pub proper : q ≡ 1 → ⊥
 
 -- EVERY SLOT HANGS WHERE IT IS NOTED, and so at one link only
-pub record Holds (t : List ℕ) (c : ℕ) (h : List ℕ) : Type 0 where
+pub record AllNoted (t : List ℕ) (c : ℕ) (h : List ℕ) : Type 0 where
   pub room : length h ≡ 4096
   pub is : (q : ℕ) → CodeIn c q → 1 ≤ heldAt t q → getD h (heldAt t q) 0 ≡ q
 
@@ -42,11 +42,11 @@ pub record Sons (t h : List ℕ) (k : ℕ) : Type 0 where
 
 unfoldable pub sonsNoted : List ℕ → ℕ → List ℕ → List ℕ
 sonsNoted t k h =
-    set (set h (slotAt t k .left) (codeOf (linkFor k Left))) (slotAt t k .right) (codeOf (linkFor k Right))
+    set (set h (slotAt t k .left) (linkNumber (linkFor k Left))) (slotAt t k .right) (linkNumber (linkFor k Right))
 
 -- a link that is written is noted for the slot that hangs there now; slot 0 stands for none
 unfoldable pub notedPart : Part → ℕ → ℕ → List ℕ → List ℕ
-notedPart (sonOn s) k x h = set h x (codeOf (linkFor k s))
+notedPart (sonOn s) k x h = set h x (linkNumber (linkFor k s))
 notedPart (registerOn s) k x h = h
 
 unfoldable pub noted : List Edit → List ℕ → List ℕ
@@ -67,9 +67,11 @@ pub record Moving (h : List ℕ) (n : Nodes) (near : Side) : Type 0 where
 -- a double rotation in two parts
 unfoldable pub topNoted : Side → Nodes → List ℕ → List ℕ
 topNoted s n h =
-    set (set (set h (n .w) (codeOf (linkFor (n .link .holder) (n .link .side)))) (n .u) (codeOf (linkFor (n .w) s)))
-    (n .v) (codeOf (linkFor (n .w) (other s)))
+    set (set (set h (n .w) (linkNumber (linkFor (n .link .holder) (n .link .side))))
+    (n .u) (linkNumber (linkFor (n .w) s)))
+    (n .v) (linkNumber (linkFor (n .w) (other s)))
 
 unfoldable pub lowNoted : Side → Nodes → List ℕ → List ℕ
 lowNoted s n h =
-    set (set h (son (n .sw) s) (codeOf (linkFor (n .u) (other s)))) (son (n .sw) (other s)) (codeOf (linkFor (n .v) s))
+    set (set h (son (n .sw) s) (linkNumber (linkFor (n .u) (other s))))
+    (son (n .sw) (other s)) (linkNumber (linkFor (n .v) s))

@@ -4,13 +4,13 @@ use scope::Side;
 ghost use mathlib.Core.Path.{_≡_};
 ghost use Prim.Native.Nat.{_≤_};
 ghost use lib.ListN.{getD, set};
-ghost use Rattle.tidy_holders.specs.Codes.{linkFor, codeOf, linkOf, aboveOf};
+ghost use Rattle.tidy_holders.specs.Codes.{linkFor, linkNumber, linkNumbered, aboveOf};
 ghost use Rattle.tidy_holders.specs.Holds.{Noting, Entries};
 
 // The number of a link.
 pub fn code(holder: usize, side: Side) -> u32
     requires { ⌜ holder ≤ 4095 ⌝ }
-    ensures { λ r. ⌜ r ≡ codeOf (linkFor holder side) ⌝ }
+    ensures { λ r. ⌜ r ≡ linkNumber (linkFor holder side) ⌝ }
 {
     match side {
         Side::Left => 2 * holder as u32,
@@ -21,7 +21,7 @@ pub fn code(holder: usize, side: Side) -> u32
 // Notes that slot k hangs on a side of a holder.
 pub fn note(h: &mut [u32; 4096], k: usize, holder: usize, side: Side)
     requires { ⌜ Noting (now h) k holder ⌝ }
-    ensures { λ _. ⌜ Entries (set (now (h .entry)) k (codeOf (linkFor holder side))) (now (h .exit)) ⌝ }
+    ensures { λ _. ⌜ Entries (set (now (h .entry)) k (linkNumber (linkFor holder side))) (now (h .exit)) ⌝ }
 {
     h[k] = code(holder, side);
 }
@@ -29,7 +29,7 @@ pub fn note(h: &mut [u32; 4096], k: usize, holder: usize, side: Side)
 // The link that holds slot k.
 pub fn link(h: &[u32; 4096], k: usize) -> Link
     requires { ⌜ k ≤ 4095 ⌝ }
-    ensures { λ r. ⌜ r ≡ linkOf (getD (now (h .entry)) k 0) ⌝ }
+    ensures { λ r. ⌜ r ≡ linkNumbered (getD (now (h .entry)) k 0) ⌝ }
 {
     let q = words::wide(h[k]);
     let holder = q / 2;

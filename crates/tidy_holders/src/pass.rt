@@ -4,7 +4,7 @@ use scope::Side;
 ghost use mathlib.Core.Path.{_≡_};
 ghost use lib.ListN.{length};
 ghost use Rattle.spelling.specs.Whole.{Whole};
-ghost use Rattle.tidy_holders.specs.Holds.{Entries, Holds, Sons, sonsNoted};
+ghost use Rattle.tidy_holders.specs.Holds.{Entries, AllNoted, Sons, sonsNoted};
 
 // The two sons of slot k.
 pub fn note_sons(t: &[u32], h: &mut [u32; 4096], k: usize)
@@ -18,7 +18,7 @@ pub fn note_sons(t: &[u32], h: &mut [u32; 4096], k: usize)
 
 pub fn fill(t: &[u32], c: usize, h: &mut [u32; 4096])
     requires { ⌜ Whole (now t) c × (length (now h) ≡ 4096) ⌝ }
-    ensures { λ _. ⌜ Holds (now (t .entry)) c (now (h .exit)) ⌝ }
+    ensures { λ _. ⌜ AllNoted (now (t .entry)) c (now (h .exit)) ⌝ }
 {
     note(h, words::root(t), 0, Side::Left);
     let mut k: usize = 1;

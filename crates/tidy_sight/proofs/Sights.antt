@@ -40,25 +40,28 @@ due-seen t c r v =
     (λ b. simp (a, b)))
     (λ a. simp a)
 
-either : (t : List ℕ) (c : ℕ) (x : Slot) (s : Side) → onSide s (sightOf t c x Left) (sightOf t c x Right) ≡ sightOf t c x s
+either : (t : List ℕ) (c : ℕ) (x : Slot) (s : Side)
+    → onSide s (sightOf t c x Left) (sightOf t c x Right) ≡ sightOf t c x s
 either t c x Left = refl
 either t c x Right = refl
 
 -- a side that was read
 pub sight-read : (t : List ℕ) (c : ℕ) (x : Slot) (s : Side) {k w : ℕ} {v u : Pair} {y : Slot} {o : Side} → k ≡ son x s
-    → v ≡ seen s x → (not (eqb (x .state) 0) && names c k) ≡ true → y ≡ slotAt t k → u ≡ seen s y → o ≡ other s → w ≡ son y o
+    → v ≡ seen s x → (not (eqb (x .state) 0) && names c k) ≡ true → y ≡ slotAt t k
+    → u ≡ seen s y → o ≡ other s → w ≡ son y o
     → record { there = true; v = v; u = u; w = w } ≡ sightOf t c x s
 unfolding sightOf
 sight-read t c x s ek ev n ey eu eo ew = let m = rw ek at n in rw (ew, eo, eu, ey, ev, ek, m) refl
 
 -- a rule with a third node, and one without, tested by what was read
 module _ (t : List ℕ) (c : ℕ) (r : Rule) (x : Sight) (there : x .there ≡ true) where
-  pub due-third : hasThird (r .kind) ≡ true → names c (x .w) ≡ true → {y : Slot} {p : Pair} {b : Bool} → y ≡ slotAt t (x .w)
-      → p ≡ seen (r .side) y → b ≡ allowed (r .kind) (x .v) (x .u) p → b ≡ dueSeen t c r x
+  pub due-third : hasThird (r .kind) ≡ true → names c (x .w) ≡ true → {y : Slot} {p : Pair} {b : Bool}
+      → y ≡ slotAt t (x .w) → p ≡ seen (r .side) y → b ≡ allowed (r .kind) (x .v) (x .u) p → b ≡ dueSeen t c r x
   unfolding dueSeen
   due-third h n ey ep eb = rw (eb, ep, ey, there, h, n) refl
 
-  pub due-two : hasThird (r .kind) ≡ false → {b : Bool} → b ≡ allowed (r .kind) (x .v) (x .u) (x .u) → b ≡ dueSeen t c r x
+  pub due-two : hasThird (r .kind) ≡ false → {b : Bool}
+      → b ≡ allowed (r .kind) (x .v) (x .u) (x .u) → b ≡ dueSeen t c r x
   unfolding dueSeen
   due-two h eb = rw (eb, there, h) refl
 
@@ -88,7 +91,8 @@ module _ {t : List ℕ} {c : ℕ} {r : Rule} {v : ℕ} {x : Slot} (p : Present t
       in-table _ (p .sized) (rw (p .is) (k .0)) (rw (p .is) (k .1))
 
 pub nodes-third : (t : List ℕ) (r : Rule) (link : Link) (v : ℕ) {x y z : Slot} {u w : ℕ} {o : Side} → x ≡ slotAt t v
-    → u ≡ son x (r .side) → y ≡ slotAt t u → hasThird (r .kind) ≡ true → o ≡ other (r .side) → w ≡ son y o → z ≡ slotAt t w
+    → u ≡ son x (r .side) → y ≡ slotAt t u → hasThird (r .kind) ≡ true
+    → o ≡ other (r .side) → w ≡ son y o → z ≡ slotAt t w
     → record { link = link; v = v; u = u; w = w; sv = x; su = y; sw = z } ≡ nodesAt t r link v
 nodes-third t r link v ex eu ey h eo ew ez = rw (ez, ew, eo, ey, eu, ex, h) refl
 

@@ -64,9 +64,9 @@ module _ (t : List ℕ) (c v : ℕ) where
   off-by e (rule-is.Known r) = rw (off-rule e r) refl
 
   -- WHERE NO RULE MAY BE DUE none is
-  pub none-due : mayBeDue t c (slotAt t v) ≡ false → (n : ℕ) → passes true t c v n ≡ false
+  pub may-not-be-due : mayBeDue t c (slotAt t v) ≡ false → (n : ℕ) → passes true t c v n ≡ false
   unfolding passes
-  none-due e n = off-by e (ruleOf n)
+  may-not-be-due e n = off-by e (ruleOf n)
 
 -- a side that was read
 pub side-read : (t : List ℕ) (c : ℕ) (x : Slot) (s : Side) {u : ℕ} {v w : Pair} {y : Slot} {h r : Bool} → u ≡ son x s

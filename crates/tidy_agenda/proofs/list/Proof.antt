@@ -1,3 +1,4 @@
+-- `tidy_agenda::list` meets its contract. Assumes nothing.
 use Prim.Native.Nat.{_/_, _%_, _<_}
 use native.Mathlib.Omega.{arith}
 use Rattle.marks.proofs.Bits.{mask}
@@ -5,42 +6,31 @@ use Rattle.tidy_agenda.proofs.Puts.{listed}
 use borrow.Author.Needs.{needs}
 use Rattle.tidy_agenda.proofs.list.Statement.{statement}
 use Rattle.tidy_agenda.proofs.list.Tie as tie
-use Rattle.tidy_agenda.proofs.list.Reads as reads
-use Rattle.tidy_agenda.proofs.list.Lts as lts
 
--- src/lib.rt:21:13
 mul-w : tie.Need-mul-w
 mul-w c = search needs
 
--- src/lib.rt:21:13
 element-copy-out-w : tie.Need-element-copy-out-w
 element-copy-out-w c = search needs
 
--- src/lib.rt:22:18
 shl-m : tie.Need-shl-m
 shl-m c = search needs
 
--- src/lib.rt:22:5
 mul-m : tie.Need-mul-m
 mul-m c = search needs
 
--- src/lib.rt:22:5
 element-write-m : tie.Need-element-write-m
 element-write-m c = search needs
 
--- src/lib.rt:23:15
 element-copy-out-top : tie.Need-element-copy-out-top
 element-copy-out-top c = search needs
 
--- src/lib.rt:24:21
 shl-m-2 : tie.Need-shl-m-2
 shl-m-2 c = search needs
 
--- src/lib.rt:24:5
 element-write-m-2 : tie.Need-element-write-m-2
 element-write-m-2 c = search needs
 
--- src/lib.rt:15:1
 returns : tie.Need-returns
 returns c =
     let at = c .before .before .args in

@@ -1,3 +1,4 @@
+-- `tidy_agenda::strike` meets its contract. Assumes nothing.
 use Prim.Native.Nat.{_/_, _%_, _<_}
 use native.Mathlib.Omega.{arith}
 use Rattle.marks.proofs.Bits.{mask}
@@ -5,50 +6,37 @@ use Rattle.tidy_agenda.proofs.Puts.{struck-last, struck-within}
 use borrow.Author.Needs.{needs}
 use Rattle.tidy_agenda.proofs.strike.Statement.{statement}
 use Rattle.tidy_agenda.proofs.strike.Tie as tie
-use Rattle.tidy_agenda.proofs.strike.Reads as reads
-use Rattle.tidy_agenda.proofs.strike.Lts as lts
 
--- src/lib.rt:34:14
 mul-w : tie.Need-mul-w
 mul-w c = search needs
 
--- src/lib.rt:34:14
 element-copy-out-w : tie.Need-element-copy-out-w
 element-copy-out-w c = search needs
 
--- src/lib.rt:34:23
 shl-w : tie.Need-shl-w
 shl-w c = search needs
 
--- src/lib.rt:34:35
 shl-w-2 : tie.Need-shl-w-2
 shl-w-2 c = search needs
 
--- src/lib.rt:35:5
 mul-m : tie.Need-mul-m
 mul-m c = search needs
 
--- src/lib.rt:35:5
 element-write-m : tie.Need-element-write-m
 element-write-m c = search needs
 
--- src/lib.rt:37:19
 element-copy-out-top : tie.Need-element-copy-out-top
 element-copy-out-top c = search needs
 
--- src/lib.rt:38:26
 shl-m : tie.Need-shl-m
 shl-m c = search needs
 
--- src/lib.rt:38:39
 shl-m-2 : tie.Need-shl-m-2
 shl-m-2 c = search needs
 
--- src/lib.rt:38:9
 element-write-m-2 : tie.Need-element-write-m-2
 element-write-m-2 c = search needs
 
--- src/lib.rt:28:1
 returns : tie.Need-returns
 returns c =
     let at = c .before .before .before .args in
@@ -58,7 +46,6 @@ returns c =
     rw (mask (at .k % 64) bit, mask (at .k / 64) word)
     (struck-last (p .0) (at .k) (p .1) (rw (mask (at .k % 64) bit) at (c .before .if1 .taken)))
 
--- src/lib.rt:28:1
 returns-2 : tie.Need-returns-2
 returns-2 c =
     let at = c .before .before .args in

@@ -21,8 +21,8 @@ use Rattle.bridge.specs.Due.{Due}
 use Rattle.bridge.proofs.Firing.Calls.{LinkIn}
 use Rattle.bridge.proofs.Resting.Linked.{link-to}
 use Rattle.bridge.proofs.Resting.Meets.{due-meets, v-some}
-use Rattle.tidy_holders.specs.Codes.{linkOf, aboveOf}
-use Rattle.tidy_holders.specs.Holds.{Holds, Moving, noted}
+use Rattle.tidy_holders.specs.Codes.{linkNumbered, aboveOf}
+use Rattle.tidy_holders.specs.Holds.{AllNoted, Moving, noted}
 use Rattle.tidy_holders.specs.Away.{Elsewhere, Unnoted}
 use Rattle.tidy_holders.proofs.Noting.Links.{code-link, son-in, held-son, held-most}
 use Rattle.tidy_holders.proofs.Noting.Fired.{fired-holds, fired-whole}
@@ -75,15 +75,15 @@ module _ {t : List ℕ} {c : ℕ} (wh : Whole t c) {v n : ℕ} (d : Due t c v n)
   pub whole-again : Whole (firedAt t c v n) c
   whole-again = rw fired-is (fired-whole wh r v (d .first) (d .most) (d .due))
 
-  module _ {h : List ℕ} (o : Holds t c h) where
+  module _ {h : List ℕ} (o : AllNoted t c h) where
     -- THE LINK THAT IS NOTED is the one that is looked up
-    pub link-noted : linkOf (getD h v 0) ≡ link
+    pub link-noted : linkNumbered (getD h v 0) ≡ link
     link-noted =
         let p = rw (linked .1) at (noted-at o link (linked .0) (rw (linked .1) (d .first))) in
-        ap linkOf p ∙ code-link (link .holder) (link .side)
+        ap linkNumbered p ∙ code-link (link .holder) (link .side)
 
     -- EVERY SLOT IS NOTED WHERE IT HANGS AGAIN
-    pub holds-again : Holds (firedAt t c v n) c (noted (action (r .kind) (r .side) nodes) h)
+    pub holds-again : AllNoted (firedAt t c v n) c (noted (action (r .kind) (r .side) nodes) h)
     holds-again =
         let j : AreSlots (nodesAt t r link (word t (linkAt link))) = rw (linked .1) node-slots in
         rw fired-is (rw (linked .1) at (fired-holds wh link (linked .0) o r j))

@@ -17,16 +17,17 @@ use Rattle.scope.specs.declared.outcome.Nodes.{Nodes}
 use Rattle.spelling.specs.Whole.{Whole}
 use Rattle.spelling.proofs.Laws.{link-son}
 use Rattle.bridge.proofs.Firing.Calls.{LinkIn}
-use Rattle.tidy_holders.specs.Codes.{linkFor, codeOf}
+use Rattle.tidy_holders.specs.Codes.{linkFor, linkNumber}
 use Rattle.tidy_holders.specs.Away.{NoNode, Elsewhere}
-use Rattle.tidy_holders.proofs.Noting.Links.{side-most, code-in, son-in, held-link, held-son, held-most, one-code}
+use Rattle.tidy_holders.proofs.Noting.Links.{side-most, code-in, son-in, held-link}
+use Rattle.tidy_holders.proofs.Noting.Links.{held-son, held-most, one-code}
 use Rattle.tidy_holders.proofs.Noting.Acts.{AreSlots}
 use Rattle.tidy_holders.proofs.Leaving.Steady.{Agree, same-passes}
-use Rattle.tidy_holders.proofs.Leaving.Untouched.{Lies, stays, registers-stay}
+use Rattle.tidy_holders.proofs.Leaving.Untouched.{Lies, untouched, registers-stay}
 
 -- a link's number tells its holder
-pub half : (k : ℕ) (s : Side) → codeOf (linkFor k s) / 2 ≡ k
-unfolding codeOf
+pub half : (k : ℕ) (s : Side) → linkNumber (linkFor k s) / 2 ≡ k
+unfolding linkNumber
 half k s = omega (arith, side-most s)
 
 module _ {t : List ℕ} {c : ℕ} (wh : Whole t c) where
@@ -37,7 +38,7 @@ module _ {t : List ℕ} {c : ℕ} (wh : Whole t c) where
   one-holder x s i j l k p e =
       let a = held-son t x s i in
       let b = a ∙ e ∙ sym (held-link t l) in
-      let q = one-code wh (codeOf (linkFor x s)) (codeOf l) (son-in x s i j) (code-in l k) b (rw a p) in
+      let q = one-code wh (linkNumber (linkFor x s)) (linkNumber l) (son-in x s i j) (code-in l k) b (rw a p) in
       sym (half x s) ∙ ap (λ (y : ℕ). y / 2) q ∙ half (l .holder) (l .side)
 
   -- no son of two slots
@@ -74,7 +75,7 @@ module _ {t : List ℕ} {c : ℕ} (wh : Whole t c) where
 
     module _ (x : ℕ) (j : 1 ≤ x) (k : x ≤ c) (a : Elsewhere t n x) where
       here : (y : ℕ) → 1 ≤ y → NoNode n y → (y ≡ l .holder → ⊥) → slotAt (written t (actionAt r n)) y ≡ slotAt t y
-      here y q b g = stays (wh .sized) r n nd li y q b g
+      here y q b g = untouched (wh .sized) r n nd li y q b g
 
       -- the sons of x
       son-node : (s : Side) → 1 ≤ son (slotAt t x) s → NoNode n (son (slotAt t x) s)

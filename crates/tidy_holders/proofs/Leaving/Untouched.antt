@@ -88,14 +88,14 @@ module _ {t : List ℕ} {c : ℕ} (z : Sized t c) (r : Rule) (n : Nodes) (a : Ar
   abbrev edits : List Edit
   edits = action (r .kind) (r .side) n
 
-  after : Rewritten t fired c edits
-  after = rw (action-edits r n a) (rewritten z edits (inside-there c (r .side) n l (r .kind)))
+  afterMoves : Rewritten t fired c edits
+  afterMoves = rw (action-edits r n a) (rewritten z edits (inside-there c (r .side) n l (r .kind)))
 
   module _ (y : ℕ) (i : 1 ≤ y) (b : NoNode n y) where
     -- A FIRING CHANGES NO SLOT but its nodes and the holder of its link
-    pub stays : (y ≡ n .link .holder → ⊥) → slotAt fired y ≡ slotAt t y
-    stays g = after .slots y i ∙ edited-away y edits _ (away-there (r .side) n y b g (r .kind))
+    pub untouched : (y ≡ n .link .holder → ⊥) → slotAt fired y ≡ slotAt t y
+    untouched g = afterMoves .slots y i ∙ edited-away y edits _ (away-there (r .side) n y b g (r .kind))
 
     -- and of the holder no register
     pub registers-stay : (o : Side) → seen o (slotAt fired y) ≡ seen o (slotAt t y)
-    registers-stay o = ap (seen o) (after .slots y i) ∙ calm o y edits _ (calm-there (r .side) n y b (r .kind))
+    registers-stay o = ap (seen o) (afterMoves .slots y i) ∙ calm o y edits _ (calm-there (r .side) n y b (r .kind))

@@ -21,16 +21,16 @@ use Rattle.bridge.proofs.Firing.Fires.{hangs-root}
 use Rattle.bridge.proofs.Records.Free.{reached-fit}
 use Rattle.bridge.proofs.Firing.Calls.{LinkIn}
 use Rattle.bridge.proofs.Links.Held.{way-to, some-link}
-use Rattle.tidy_holders.specs.Codes.{linkFor, codeOf, aboveOf}
-use Rattle.tidy_holders.specs.Holds.{Holds}
+use Rattle.tidy_holders.specs.Codes.{linkFor, linkNumber, aboveOf}
+use Rattle.tidy_holders.specs.Holds.{AllNoted}
 use Rattle.tidy_holders.specs.Away.{Elsewhere, Unnoted}
 use Rattle.tidy_holders.proofs.Noting.Links.{code-in, held-link}
 use Rattle.tidy_holders.proofs.Leaving.Elsewhere.{half}
 
-module _ {t : List ℕ} {c : ℕ} {h : List ℕ} (o : Holds t c h) where
-  pub noted-at : (l : Link) → LinkIn c l → 1 ≤ word t (linkAt l) → getD h (word t (linkAt l)) 0 ≡ codeOf l
+module _ {t : List ℕ} {c : ℕ} {h : List ℕ} (o : AllNoted t c h) where
+  pub noted-at : (l : Link) → LinkIn c l → 1 ≤ word t (linkAt l) → getD h (word t (linkAt l)) 0 ≡ linkNumber l
   noted-at l i p =
-      ap (λ (k : ℕ). getD h k 0) (sym (held-link t l)) ∙ o .is (codeOf l) (code-in l i) (rw (held-link t l) p)
+      ap (λ (k : ℕ). getD h k 0) (sym (held-link t l)) ∙ o .is (linkNumber l) (code-in l i) (rw (held-link t l) p)
 
   -- the slot above is the holder of the link, or at the root the slot itself
   above-held : (l : Link) → LinkIn c l → 1 ≤ word t (linkAt l) → (l .holder ≡ 0 → ⊥)
@@ -81,7 +81,7 @@ module _ {t : List ℕ} {c : ℕ} (wh : Whole t c) where
       }
 
   -- ABOVE A RECORD IS A RECORD
-  pub above-record : {h : List ℕ} → Holds t c h → (k : ℕ) → Record t c k → Record t c (aboveOf h k)
+  pub above-record : {h : List ℕ} → AllNoted t c h → (k : ℕ) → Record t c k → Record t c (aboveOf h k)
   above-record {h} o k r =
       let x = some-link wh k (r .first) (r .most) (r .some) in
       let l = x .link in

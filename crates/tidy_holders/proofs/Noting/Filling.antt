@@ -10,8 +10,8 @@ use Rattle.scope.specs.Table.{word, rootWord, slotAt}
 use Rattle.scope.specs.declared.side.Side.the-variants.{Left, Right}
 use Rattle.spelling.specs.Whole.{Whole}
 use Rattle.spelling.proofs.Laws.{in-table, header-root}
-use Rattle.tidy_holders.specs.Codes.{linkFor, codeOf, heldAt}
-use Rattle.tidy_holders.specs.Holds.{CodeIn, Holds, Entries, Sons, sonsNoted}
+use Rattle.tidy_holders.specs.Codes.{linkFor, linkNumber, heldAt}
+use Rattle.tidy_holders.specs.Holds.{CodeIn, AllNoted, Entries, Sons, sonsNoted}
 use Rattle.tidy_holders.proofs.Noting.Links.{son-in, held-root, held-son, held-most, one-code}
 
 -- every link of a number below n is noted
@@ -37,12 +37,12 @@ module _ {t : List ℕ} {c : ℕ} (w : Whole t c) where
 
   -- both links of slot k
   pair : {h : List ℕ} (k : ℕ) → 1 ≤ k → k ≤ c → Filled t c h (2 * k)
-      → length (set h (heldAt t (codeOf (linkFor k Left))) (codeOf (linkFor k Left))) ≡ 4096
+      → length (set h (heldAt t (linkNumber (linkFor k Left))) (linkNumber (linkFor k Left))) ≡ 4096
       → length (sonsNoted t k h) ≡ 4096 → Filled t c (sonsNoted t k h) (2 * (k + 1))
-  unfolding sonsNoted codeOf
+  unfolding sonsNoted linkNumber
   pair {h} k i j f a b =
-      let l = codeOf (linkFor k Left) in
-      let r = codeOf (linkFor k Right) in
+      let l = linkNumber (linkFor k Left) in
+      let r = linkNumber (linkFor k Right) in
       let one = next l (son-in k Left i j) (same-to (2 * k) l (omega arith) f) a in
       let el : heldAt t l ≡ slotAt t k .left = held-son t k Left i in
       let er : heldAt t r ≡ slotAt t k .right = held-son t k Right i in
@@ -62,8 +62,8 @@ pub record Filling (t : List ℕ) (c : ℕ) (h : List ℕ) (k : ℕ) : Type 0 wh
 
 module _ {t : List ℕ} {c : ℕ} where
   pub filling-start : (h : List ℕ) {h′ : List ℕ} {x : ℕ} → Whole t c → x ≡ word t rootWord → length h ≡ 4096
-      → Entries (set h x (codeOf (linkFor 0 Left))) h′ → Filling t c h′ 1
-  unfolding codeOf
+      → Entries (set h x (linkNumber (linkFor 0 Left))) h′ → Filling t c h′ 1
+  unfolding linkNumber
   filling-start h w e len n = record {
     whole = w;
     first = omega arith;
@@ -104,5 +104,5 @@ module _ {t : List ℕ} {c : ℕ} where
           (pair (f .whole) k (f .first) i (f .filled) (length-set h _ _ ∙ f .filled .room) (rw (← n .is) (n .room)));
     }
 
-    pub filling-end : c < k → Holds t c h
+    pub filling-end : c < k → AllNoted t c h
     filling-end l = record { room = f .filled .room; is = λ q i o. f .filled .is q i (omega (arith, i .most)) o }

@@ -26,20 +26,20 @@ use Rattle.bridge.proofs.Firing.Fires.{same-way}
 use Rattle.bridge.proofs.Links.Held.{way-to}
 use Rattle.bridge.proofs.Resting.Linked.{link-to}
 use Rattle.bridge.proofs.Resting.Meets.{due-meets, v-some, due-fires}
-use Rattle.tidy_holders.specs.Holds.{Holds, noted}
+use Rattle.tidy_holders.specs.Holds.{AllNoted, noted}
 use Rattle.scope.specs.Rules.{action}
 use Rattle.tidy_holders.proofs.Noting.Acts.{AreSlots, action-edits}
-use Rattle.tidy_holders.proofs.Noting.Swaps.{after, told}
+use Rattle.tidy_holders.proofs.Noting.Swaps.{afterMoves, told}
 use Rattle.tidy_holders.proofs.Noting.Places.{heldPart, heldBy, notePart, noteBy}
 use Rattle.tidy_holders.proofs.Noting.Turned.{by-moves, v-most, turned-holds, twice-holds}
 
-module _ {t : List ℕ} {c : ℕ} (wh : Whole t c) (l : Link) (i : LinkIn c l) {h : List ℕ} (o : Holds t c h) where
+module _ {t : List ℕ} {c : ℕ} (wh : Whole t c) (l : Link) (i : LinkIn c l) {h : List ℕ} (o : AllNoted t c h) where
   abbrev at : Rule → Nodes
   at r = nodesAt t r l (word t (linkAt l))
 
   edited-holds : (k : Kind) (s : Side) → AreSlots (at (ruleOn k s))
-      → Holds (written t (writes (action k s (at (ruleOn k s))))) c (noted (action k s (at (ruleOn k s))) h)
-  unfolding heldBy heldPart noteBy notePart after told
+      → AllNoted (written t (writes (action k s (at (ruleOn k s))))) c (noted (action k s (at (ruleOn k s))) h)
+  unfolding heldBy heldPart noteBy notePart afterMoves told
   edited-holds Propagate s j =
       by-moves (wh .sized) o (propagated s (at (ruleOn Propagate s))) []
       ((j .v, v-most wh l i s (j .v) (j .u)), tt) (tt, tt) tt (λ q n. tt) (λ q. refl) (λ k. refl)
@@ -48,7 +48,7 @@ module _ {t : List ℕ} {c : ℕ} (wh : Whole t c) (l : Link) (i : LinkIn c l) {
   edited-holds Double s j = twice-holds wh l i s (j .v) (j .u) o (j .w)
 
   pub fired-holds : (r : Rule) → AreSlots (at r)
-      → Holds (written t (actionAt r (at r))) c (noted (action (r .kind) (r .side) (at r)) h)
+      → AllNoted (written t (actionAt r (at r))) c (noted (action (r .kind) (r .side) (at r)) h)
   fired-holds r j = rw (action-edits r (at r) j) (edited-holds (r .kind) (r .side) j)
 
 -- what comes out on the tree too leaves the table sound

@@ -12,38 +12,38 @@ use Rattle.scope.specs.declared.rule.Kind.{Kind}
 use Rattle.scope.specs.declared.rule.Kind.the-variants.{Propagate}
 use Rattle.scope.specs.declared.outcome.Nodes.{Nodes}
 use Rattle.scope.specs.Rules.{rotated, rotatedTwice}
-use Rattle.tidy_holders.specs.Codes.{linkFor, codeOf}
+use Rattle.tidy_holders.specs.Codes.{linkFor, linkNumber}
 use Rattle.tidy_holders.specs.Holds.{Entries, Noting, Sons, Moving}
 use Rattle.tidy_holders.specs.Holds.{noted, notedPart, topNoted, lowNoted, sonsNoted}
 use Rattle.scope.specs.Rules.{action}
 
-pub entered : {h : List ℕ} {k holder x y : ℕ} → Noting h k holder → x ≡ y → Entries (set h k y) (set h k x)
-entered {h} {k} {holder} {x} n e = record { is = rw e; room = length-set h k x ∙ n .room }
+pub entry-noted : {h : List ℕ} {k holder x y : ℕ} → Noting h k holder → x ≡ y → Entries (set h k y) (set h k x)
+entry-noted {h} {k} {holder} {x} n e = record { is = rw e; room = length-set h k x ∙ n .room }
 
 pub sons-noted : {t h h1 h2 : List ℕ} {k a b : ℕ} {s : Slot} → Sons t h k → s ≡ slotAt t k
     → a ≡ son s Left → b ≡ son s Right
-    → Entries (set h a (codeOf (linkFor k Left))) h1 → Entries (set h1 b (codeOf (linkFor k Right))) h2
+    → Entries (set h a (linkNumber (linkFor k Left))) h1 → Entries (set h1 b (linkNumber (linkFor k Right))) h2
     → Entries (sonsNoted t k h) h2
 unfolding sonsNoted
 sons-noted n e p q a b = record { is = b .is ∙ rw (a .is, q, p, e) refl; room = b .room }
 
 module _ {h : List ℕ} {n : Nodes} {near far : Side} (m : Moving h n near) (e : far ≡ other near) {h1 h2 : List ℕ} where
   pub turned-noted : {h3 : List ℕ} {k : ℕ} → k ≡ son (n .su) far
-      → Entries (set h (n .u) (codeOf (linkFor (n .link .holder) (n .link .side)))) h1
-      → Entries (set h1 (n .v) (codeOf (linkFor (n .u) far))) h2
-      → Entries (set h2 k (codeOf (linkFor (n .v) near))) h3 → Entries (noted (rotated near n) h) h3
+      → Entries (set h (n .u) (linkNumber (linkFor (n .link .holder) (n .link .side)))) h1
+      → Entries (set h1 (n .v) (linkNumber (linkFor (n .u) far))) h2
+      → Entries (set h2 k (linkNumber (linkFor (n .v) near))) h3 → Entries (noted (rotated near n) h) h3
   unfolding noted notedPart
   turned-noted q a b d = record { is = d .is ∙ rw (b .is, a .is, q, e) refl; room = d .room }
 
-  pub top-noted : {h3 : List ℕ} → Entries (set h (n .w) (codeOf (linkFor (n .link .holder) (n .link .side)))) h1
-      → Entries (set h1 (n .u) (codeOf (linkFor (n .w) near))) h2
-      → Entries (set h2 (n .v) (codeOf (linkFor (n .w) far))) h3 → Entries (topNoted near n h) h3
+  pub top-noted : {h3 : List ℕ} → Entries (set h (n .w) (linkNumber (linkFor (n .link .holder) (n .link .side)))) h1
+      → Entries (set h1 (n .u) (linkNumber (linkFor (n .w) near))) h2
+      → Entries (set h2 (n .v) (linkNumber (linkFor (n .w) far))) h3 → Entries (topNoted near n h) h3
   unfolding topNoted
   top-noted a b d = record { is = d .is ∙ rw (b .is, a .is, e) refl; room = d .room }
 
   pub low-noted : {j k : ℕ} → j ≡ son (n .sw) near → k ≡ son (n .sw) far
-      → Entries (set h j (codeOf (linkFor (n .u) far))) h1
-      → Entries (set h1 k (codeOf (linkFor (n .v) near))) h2 → Entries (lowNoted near n h) h2
+      → Entries (set h j (linkNumber (linkFor (n .u) far))) h1
+      → Entries (set h1 k (linkNumber (linkFor (n .v) near))) h2 → Entries (lowNoted near n h) h2
   unfolding lowNoted
   low-noted p q a b = record { is = b .is ∙ rw (a .is, q, p, e) refl; room = b .room }
 

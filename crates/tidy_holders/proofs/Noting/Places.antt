@@ -18,9 +18,9 @@ use Rattle.spelling.proofs.Laws.{link-lt}
 use Rattle.scope.specs.Edits.{Part, sonOn, registerOn, Edit, placeOf, writes}
 use Rattle.bridge.proofs.Firing.Calls.{LinkIn}
 use Rattle.bridge.specs.Leads.{sideNumber}
-use Rattle.tidy_holders.specs.Codes.{linkFor, codeOf, linkOf, heldAt}
+use Rattle.tidy_holders.specs.Codes.{linkFor, linkNumber, linkNumbered, heldAt}
 use Rattle.tidy_holders.specs.Holds.{CodeIn, notedPart, noted}
-use Rattle.tidy_holders.proofs.Noting.Links.{side-most, link-code, link-in, held-link}
+use Rattle.tidy_holders.proofs.Noting.Links.{side-most, link-code, code-link-in, held-link}
 
 -- where a link stands, said without a difference
 place : (k : ℕ) (s : Side) → 1 ≤ k → linkAt (linkFor k s) + slotWords ≡ slotWords * k + (7 + sideNumber s)
@@ -33,12 +33,12 @@ unfolding linkAt
 root-place s = refl
 
 -- two links that stand at one place have one number
-one-place : {c : ℕ} (l m : Link) → LinkIn c l → LinkIn c m → linkAt l ≡ linkAt m → codeOf l ≡ codeOf m
-unfolding codeOf
+one-place : {c : ℕ} (l m : Link) → LinkIn c l → LinkIn c m → linkAt l ≡ linkAt m → linkNumber l ≡ linkNumber m
+unfolding linkNumber
 one-place l m i j e =
     elim (ℕ-discrete (l .holder) 0) [
       | yes p ↦ elim (ℕ-discrete (m .holder) 0) [
-        | yes q ↦ ap codeOf (i .root p ∙ sym (j .root q))
+        | yes q ↦ ap linkNumber (i .root p ∙ sym (j .root q))
         | no q ↦
             absurd (omega (arith, place (m .holder) (m .side) (omega arith), ap linkAt (i .root p), root-place Left))
       ]
@@ -68,17 +68,17 @@ no-register l i k s o e =
     ]
 
 -- a part of slot k may be written: a link of the table, or a register of a slot
-abbrev pub Proper : ℕ → Part → ℕ → Type 0
-Proper c (sonOn s) k = LinkIn c (linkFor k s)
-Proper c (registerOn s) k = (1 ≤ k) × (k ≤ c)
+abbrev pub ProperPart : ℕ → Part → ℕ → Type 0
+ProperPart c (sonOn s) k = LinkIn c (linkFor k s)
+ProperPart c (registerOn s) k = (1 ≤ k) × (k ≤ c)
 
 abbrev pub AllProper : ℕ → List Edit → Type 0
 AllProper c [] = Unit {0}
-AllProper c (e ∷ es) = Proper c (e .part) (e .slot) × AllProper c es
+AllProper c (e ∷ es) = ProperPart c (e .part) (e .slot) × AllProper c es
 
 -- what hangs at the link of number q after an edit, and after several
 unfoldable pub heldPart : Part → ℕ → ℕ → ℕ → ℕ → ℕ
-heldPart (sonOn s) k x q y = cond (eqb q (codeOf (linkFor k s))) x y
+heldPart (sonOn s) k x q y = cond (eqb q (linkNumber (linkFor k s))) x y
 heldPart (registerOn s) k x q y = y
 
 unfoldable pub heldBy : List Edit → ℕ → ℕ → ℕ
@@ -87,26 +87,26 @@ heldBy (e ∷ es) q y = heldBy es q (heldPart (e .part) (e .slot) (e .what) q y)
 
 module _ {t : List ℕ} {c : ℕ} (z : Sized t c) (q : ℕ) (i : CodeIn c q) where
   put-link : (k : ℕ) (s : Side) (x : ℕ) → LinkIn c (linkFor k s)
-      → heldAt (set t (linkAt (linkFor k s)) x) q ≡ cond (eqb q (codeOf (linkFor k s))) x (heldAt t q)
+      → heldAt (set t (linkAt (linkFor k s)) x) q ≡ cond (eqb q (linkNumber (linkFor k s))) x (heldAt t q)
   unfolding heldAt
   put-link k s x j =
-      elim (ℕ-discrete q (codeOf (linkFor k s))) [
-        | yes e ↦ rw (eq-eqb q (codeOf (linkFor k s)) e)
+      elim (ℕ-discrete q (linkNumber (linkFor k s))) [
+        | yes e ↦ rw (eq-eqb q (linkNumber (linkFor k s)) e)
             (ap (λ (p : ℕ). heldAt (set t (linkAt (linkFor k s)) x) p) e
             ∙ held-link (set t (linkAt (linkFor k s)) x) (linkFor k s)
             ∙ getD-set-same t (linkAt (linkFor k s)) x 0 (link-lt t c (linkFor k s) z (j .most)))
-        | no ne ↦ rw (ne-eqb q (codeOf (linkFor k s)) ne)
-            (getD-set-other t (linkAt (linkFor k s)) (linkAt (linkOf q)) x 0
-            (λ e. ne (sym (link-code q) ∙ one-place (linkOf q) (linkFor k s) (link-in q i) j e)))
+        | no ne ↦ rw (ne-eqb q (linkNumber (linkFor k s)) ne)
+            (getD-set-other t (linkAt (linkFor k s)) (linkAt (linkNumbered q)) x 0
+            (λ e. ne (sym (link-code q) ∙ one-place (linkNumbered q) (linkFor k s) (code-link-in q i) j e)))
       ]
 
-  put-part : (p : Part) (k x : ℕ) → Proper c p k → heldAt (set t (placeOf k p) x) q ≡ heldPart p k x q (heldAt t q)
+  put-part : (p : Part) (k x : ℕ) → ProperPart c p k → heldAt (set t (placeOf k p) x) q ≡ heldPart p k x q (heldAt t q)
   unfolding heldPart linkAt
   put-part (sonOn s) k x j = put-link k s x j
   put-part (registerOn s) k x j =
       rw (ne-eqb k 0 (λ e. omega (arith, j .0)))
-      (unfold heldAt in getD-set-other t (base k + registerPlace s) (linkAt (linkOf q)) x 0
-      (no-register (linkOf q) (link-in q i) k s (j .0)))
+      (unfold heldAt in getD-set-other t (base k + registerPlace s) (linkAt (linkNumbered q)) x 0
+      (no-register (linkNumbered q) (code-link-in q i) k s (j .0)))
 
 pub held-edits : {t : List ℕ} {c : ℕ} → Sized t c → (q : ℕ) → CodeIn c q → (es : List Edit) → AllProper c es
     → heldAt (written t (writes es)) q ≡ heldBy es q (heldAt t q)
@@ -119,7 +119,7 @@ held-edits {t} {c} z q i (e ∷ es) a =
 
 -- where slot k is noted after an edit, and after several
 unfoldable pub notePart : Part → ℕ → ℕ → ℕ → ℕ → ℕ
-notePart (sonOn s) j x k y = cond (eqb k x) (codeOf (linkFor j s)) y
+notePart (sonOn s) j x k y = cond (eqb k x) (linkNumber (linkFor j s)) y
 notePart (registerOn s) j x k y = y
 
 unfoldable pub noteBy : List Edit → ℕ → ℕ → ℕ
@@ -138,15 +138,15 @@ EachNoted (e ∷ es) = Noted (e .part) (e .what) × EachNoted es
 module _ (h : List ℕ) (len : length h ≡ 4096) where
   note-length : (p : Part) (j x : ℕ) → length (notedPart p j x h) ≡ 4096
   unfolding notedPart
-  note-length (sonOn s) j x = length-set h x (codeOf (linkFor j s)) ∙ len
+  note-length (sonOn s) j x = length-set h x (linkNumber (linkFor j s)) ∙ len
   note-length (registerOn s) j x = len
 
   note-part : (p : Part) (j x k : ℕ) → Noted p x → getD (notedPart p j x h) k 0 ≡ notePart p j x k (getD h k 0)
   unfolding notedPart notePart
   note-part (sonOn s) j x k n =
       elim (ℕ-discrete k x) [
-        | yes e ↦ rw (e, eq-eqb x x refl) (getD-set-same h x (codeOf (linkFor j s)) 0 (omega arith))
-        | no ne ↦ rw (ne-eqb k x ne) (getD-set-other h x k (codeOf (linkFor j s)) 0 ne)
+        | yes e ↦ rw (e, eq-eqb x x refl) (getD-set-same h x (linkNumber (linkFor j s)) 0 (omega arith))
+        | no ne ↦ rw (ne-eqb k x ne) (getD-set-other h x k (linkNumber (linkFor j s)) 0 ne)
       ]
   note-part (registerOn s) j x k n = refl
 

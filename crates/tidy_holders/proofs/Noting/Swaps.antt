@@ -31,9 +31,9 @@ Once c (m ∷ ms) = CodeIn c (m .from) × NotFrom (m .from) ms × Once c ms
 
 -- f says what hangs at a link and h where a slot hangs; the first move that fits counts
 module _ (c : ℕ) (f h : ℕ → ℕ) where
-  unfoldable pub after : List Move → ℕ → ℕ
-  after [] q = f q
-  after (m ∷ ms) q = cond (eqb q (m .at)) (f (m .from)) (after ms q)
+  unfoldable pub afterMoves : List Move → ℕ → ℕ
+  afterMoves [] q = f q
+  afterMoves (m ∷ ms) q = cond (eqb q (m .at)) (f (m .from)) (afterMoves ms q)
 
   unfoldable pub told : List Move → ℕ → ℕ
   told [] k = h k
@@ -51,8 +51,8 @@ module _ (c : ℕ) (f h : ℕ → ℕ) where
       here : x ≡ f link
 
     source : (ms : List Move) (q b : ℕ) → CodeIn c q → Once c ms → NotFrom b ms → (NotAt q ms → q ≡ b → ⊥)
-        → Source b (after ms q)
-    unfolding after
+        → Source b (afterMoves ms q)
+    unfolding afterMoves
     source [] q b i a n o = record { link = q; inTable = i; other = o tt; here = refl }
     source (m ∷ ms) q b i a n o =
         elim (ℕ-discrete q (m .at)) [
@@ -63,17 +63,17 @@ module _ (c : ℕ) (f h : ℕ → ℕ) where
 
     -- EACH SLOT IS NOTED WHERE IT HANGS AFTER THE MOVES
     pub told-after : (ms : List Move) → Once c ms → (q : ℕ) → CodeIn c q → (NotAt q ms → NotFrom q ms)
-        → 1 ≤ after ms q → told ms (after ms q) ≡ q
-    unfolding after told
+        → 1 ≤ afterMoves ms q → told ms (afterMoves ms q) ≡ q
+    unfolding afterMoves told
     told-after [] a q i o l = is q i l
     told-after (m ∷ ms) a q i o l =
         elim (ℕ-discrete q (m .at)) [
           | yes e ↦ rw (eq-eqb q (m .at) e, eq-eqb (f (m .from)) (f (m .from)) refl) (sym e)
           | no ne ↦
-              let pos : 1 ≤ after ms q = rw (ne-eqb q (m .at) ne) at l in
+              let pos : 1 ≤ afterMoves ms q = rw (ne-eqb q (m .at) ne) at l in
               let s = source ms q (m .from) i (a .2) (a .1) (λ k. o (ne, k) .0) in
-              let apart : after ms q ≡ f (m .from) → ⊥ =
+              let apart : afterMoves ms q ≡ f (m .from) → ⊥ =
               λ e. s .other (one (s .link) (m .from) (s .inTable) (a .0) (rw (← s .here) pos) (sym (s .here) ∙ e)) in
-              rw (ne-eqb q (m .at) ne, ne-eqb (after ms q) (f (m .from)) apart)
+              rw (ne-eqb q (m .at) ne, ne-eqb (afterMoves ms q) (f (m .from)) apart)
               (told-after ms (a .2) q i (λ k. o (ne, k) .1) pos)
         ]

@@ -16,36 +16,36 @@ use Rattle.spelling.specs.Ready.{Sized}
 use Rattle.scope.specs.Edits.{Edit, writes}
 use Rattle.scope.specs.Rules.{rotated, rotatedTwice}
 use Rattle.bridge.proofs.Firing.Calls.{LinkIn}
-use Rattle.tidy_holders.specs.Codes.{linkFor, codeOf, heldAt}
-use Rattle.tidy_holders.specs.Holds.{CodeIn, Holds, noted}
+use Rattle.tidy_holders.specs.Codes.{linkFor, linkNumber, heldAt}
+use Rattle.tidy_holders.specs.Holds.{CodeIn, AllNoted, noted}
 use Rattle.tidy_holders.proofs.Noting.Links.{side-most, code-in, son-in, held-link, held-son, held-most}
-use Rattle.tidy_holders.proofs.Noting.Swaps.{Move, takes, NotAt, NotFrom, Once, after, told, told-after}
+use Rattle.tidy_holders.proofs.Noting.Swaps.{Move, takes, NotAt, NotFrom, Once, afterMoves, told, told-after}
 use Rattle.tidy_holders.proofs.Noting.Places.{AllProper, heldPart, heldBy, held-edits}
 use Rattle.tidy_holders.proofs.Noting.Places.{notePart, noteBy, EachNoted, note-edits}
 use Rattle.tidy_holders.proofs.Noting.Apart.{Two, Three, two, three}
 
 -- edits that come to such moves
-pub by-moves : {t : List ℕ} {c : ℕ} {h : List ℕ} → Sized t c → Holds t c h → (es : List Edit) (ms : List Move)
+pub by-moves : {t : List ℕ} {c : ℕ} {h : List ℕ} → Sized t c → AllNoted t c h → (es : List Edit) (ms : List Move)
     → AllProper c es → EachNoted es → Once c ms → ((q : ℕ) → NotAt q ms → NotFrom q ms)
-    → ((q : ℕ) → heldBy es q (heldAt t q) ≡ after c (heldAt t) (λ k. getD h k 0) ms q)
+    → ((q : ℕ) → heldBy es q (heldAt t q) ≡ afterMoves c (heldAt t) (λ k. getD h k 0) ms q)
     → ((k : ℕ) → noteBy es k (getD h k 0) ≡ told c (heldAt t) (λ k. getD h k 0) ms k)
-    → Holds (written t (writes es)) c (noted es h)
+    → AllNoted (written t (writes es)) c (noted es h)
 by-moves {t} {c} {h} z o es ms p n once out held note = record {
   room = note-edits h (o .room) 0 es n .0;
   is = λ q i l.
       let e = held-edits z q i es p ∙ held q in
-      let x = after c (heldAt t) (λ k. getD h k 0) ms q in
+      let x = afterMoves c (heldAt t) (λ k. getD h k 0) ms q in
       ap (λ (k : ℕ). getD (noted es h) k 0) e
       ∙ note-edits h (o .room) x es n .1 ∙ note x
       ∙ told-after c (heldAt t) (λ k. getD h k 0) (o .is) ms once q i (out q) (rw (← e) l);
 }
 
-codes-apart : (j k : ℕ) (a b : Side) → (j ≡ k → ⊥) → codeOf (linkFor j a) ≡ codeOf (linkFor k b) → ⊥
-unfolding codeOf
+codes-apart : (j k : ℕ) (a b : Side) → (j ≡ k → ⊥) → linkNumber (linkFor j a) ≡ linkNumber (linkFor k b) → ⊥
+unfolding linkNumber
 codes-apart j k a b ne e = omega (arith, side-most a, side-most b)
 
-sides-apart : (k : ℕ) (s : Side) → codeOf (linkFor k s) ≡ codeOf (linkFor k (other s)) → ⊥
-unfolding codeOf
+sides-apart : (k : ℕ) (s : Side) → linkNumber (linkFor k s) ≡ linkNumber (linkFor k (other s)) → ⊥
+unfolding linkNumber
 sides-apart k Left e = omega arith
 sides-apart k Right e = omega arith
 
@@ -62,13 +62,13 @@ module _ {t : List ℕ} {c : ℕ} (wh : Whole t c) (l : Link) (i : LinkIn c l) (
 
   -- the numbers of the links: v's, u's far one, v's near one
   abbrev g : ℕ
-  g = codeOf l
+  g = linkNumber l
 
   abbrev a : ℕ
-  a = codeOf (linkFor u (other s))
+  a = linkNumber (linkFor u (other s))
 
   abbrev b : ℕ
-  b = codeOf (linkFor v s)
+  b = linkNumber (linkFor v s)
 
   small : {k : ℕ} → k ≤ c → k ≤ 4095
   small j = omega (arith, wh .sized .most)
@@ -117,10 +117,10 @@ module _ {t : List ℕ} {c : ℕ} (wh : Whole t c) (l : Link) (i : LinkIn c l) (
     abbrev pub pairAt : ℕ → Slot → Nodes
     pairAt w sw = record { link = l; v = v; u = u; w = w; sv = slotAt t v; su = slotAt t u; sw = sw }
 
-    module _ {h : List ℕ} (o : Holds t c h) where
+    module _ {h : List ℕ} (o : AllNoted t c h) where
       pub turned-holds : (w : ℕ) (sw : Slot)
-          → Holds (written t (writes (rotated s (pairAt w sw)))) c (noted (rotated s (pairAt w sw)) h)
-      unfolding heldBy heldPart noteBy notePart after told
+          → AllNoted (written t (writes (rotated s (pairAt w sw)))) c (noted (rotated s (pairAt w sw)) h)
+      unfolding heldBy heldPart noteBy notePart afterMoves told
       turned-holds w sw =
           by-moves (wh .sized) o (rotated s (pairAt w sw)) (takes b a ∷ takes a g ∷ takes g b ∷ [])
           (i, (in-u, (in-v, (at-v, (at-u, tt)))))
@@ -136,10 +136,10 @@ module _ {t : List ℕ} {c : ℕ} (wh : Whole t c) (l : Link) (i : LinkIn c l) (
         w-most = rw (← held-son t u (other s) ui) (held-most wh a a-in)
 
         abbrev wn : ℕ
-        wn = codeOf (linkFor m s)
+        wn = linkNumber (linkFor m s)
 
         abbrev wf : ℕ
-        wf = codeOf (linkFor m (other s))
+        wf = linkNumber (linkFor m (other s))
 
         in-w : (side : Side) → LinkIn c (linkFor m side)
         in-w side = record { most = w-most; root = λ e. absurd (omega arith) }
@@ -151,20 +151,20 @@ module _ {t : List ℕ} {c : ℕ} (wh : Whole t c) (l : Link) (i : LinkIn c l) (
         wf-son : heldAt t wf ≡ son (slotAt t m) (other s)
         wf-son = held-son t m (other s) wi
 
-        w-in : (side : Side) → CodeIn c (codeOf (linkFor m side))
+        w-in : (side : Side) → CodeIn c (linkNumber (linkFor m side))
         w-in side = son-in m side wi w-most
 
         apart-w : Three v u m (l .holder)
         apart-w = three wh l i vi s ui wi
 
         -- w's links are none of the others
-        w-g : (side : Side) → codeOf (linkFor m side) ≡ g → ⊥
+        w-g : (side : Side) → linkNumber (linkFor m side) ≡ g → ⊥
         w-g side = codes-apart m (l .holder) side (l .side) (apart-w .w-g)
 
-        w-a : (side : Side) → codeOf (linkFor m side) ≡ a → ⊥
+        w-a : (side : Side) → linkNumber (linkFor m side) ≡ a → ⊥
         w-a side = codes-apart m u side (other s) (λ e. apart-w .u-w (sym e))
 
-        w-b : (side : Side) → codeOf (linkFor m side) ≡ b → ⊥
+        w-b : (side : Side) → linkNumber (linkFor m side) ≡ b → ⊥
         w-b side = codes-apart m v side s (λ e. apart-w .v-w (sym e))
 
         abbrev moves : List Move
@@ -182,7 +182,7 @@ module _ {t : List ℕ} {c : ℕ} (wh : Whole t c) (l : Link) (i : LinkIn c l) (
         )
 
         low : (side : Side) → son (slotAt t m) side ≤ 4095
-        low side = rw (← held-son t m side wi) (most (codeOf (linkFor m side)) (w-in side))
+        low side = rw (← held-son t m side wi) (most (linkNumber (linkFor m side)) (w-in side))
 
         at-w : (1 ≤ m) × (m ≤ c)
         at-w = (wi, w-most)
@@ -193,9 +193,9 @@ module _ {t : List ℕ} {c : ℕ} (wh : Whole t c) (l : Link) (i : LinkIn c l) (
         proper : AllProper c (rotatedTwice s (pairAt m (slotAt t m)))
         proper = (i, (in-w s, (in-w (other s), (in-u, (in-v, (at-u, (at-v, (at-w, (at-w, tt)))))))))
 
-        pub twice-holds : Holds (written t (writes (rotatedTwice s (pairAt m (slotAt t m))))) c
+        pub twice-holds : AllNoted (written t (writes (rotatedTwice s (pairAt m (slotAt t m))))) c
             (noted (rotatedTwice s (pairAt m (slotAt t m))) h)
-        unfolding heldBy heldPart noteBy notePart after told
+        unfolding heldBy heldPart noteBy notePart afterMoves told
         twice-holds =
             by-moves (wh .sized) o (rotatedTwice s (pairAt m (slotAt t m))) moves proper
             noted-all once

@@ -1,3 +1,4 @@
+-- `tidy::call::tidied` meets its contract. Assumes nothing.
 use borrow.Author.Needs.{needs}
 use mathlib.Core.Path.{_∙_}
 use denote.Ref.{now}
@@ -13,7 +14,10 @@ fill-requires : tie.Need-fill-requires
 fill-requires c κs = search needs
 
 review-all-requires : tie.Need-review-all-requires
-review-all-requires c κs = let a = c .before .before .before .before .before .before .before .before in (a .pre .sized, all-start (now (a .args .t)) (a .args .c))
+review-all-requires c κs =
+    let w = c .before .before .before .before .before .before .before .before in
+    let a = w in
+    (a .pre .sized, all-start (now (a .args .t)) (a .args .c))
 
 run-requires : tie.Need-run-requires
 run-requires c κs =
@@ -37,10 +41,14 @@ same-length c = search needs
 
 returns : tie.Need-returns
 returns c =
-    let b = c .before .before .before .before .before in
-    let a = b .before .before .before .before .before .before .before .before .before .before .before .before .before in
+    let w = c .before .before .before .before .before in
+    let b = w in
+    let a =
+    b .before .before .before .before .before .before .before .before .before .before .before .before .before in
     told-so (now (a .args .t)) (a .args .c) (a .args .budget) (b .run .ensures)
-    (c .before .before .long .ensures ∙ b .before .before .before .before .before .before .before .before .before .before .change .ensures) (c .before .long2 .ensures) (c .accept .ensures)
+    (c .before .before .long .ensures ∙
+    b .before .before .before .before .before .before .before .before .before .before .change .ensures)
+    (c .before .long2 .ensures) (c .accept .ensures)
 
 pub tidied-spec : {M : Type 1} → statement M
 tidied-spec =

@@ -1,3 +1,4 @@
+-- `tidy::call::tidy` meets its contract. Assumes nothing.
 use borrow.Author.Needs.{needs}
 use mathlib.Core.Path.{sym, _∙_, ap}
 use denote.Ref.{now}
@@ -29,9 +30,11 @@ same-length c = search needs
 
 returns : tie.Need-returns
 returns c =
-    let b = c .before .before .before .before in
+    let w = c .before .before .before .before in
+    let b = w in
     let a = b .before .before .before .args in
-    let e = sym (tidy-shut (now (a .t)) (a .budget) (sym (b .enter-sound .ensures) ∙ c .before .before .why .given .1)) in
+    let e = sym
+    (tidy-shut (now (a .t)) (a .budget) (sym (b .enter-sound .ensures) ∙ c .before .before .why .given .1)) in
     (c .refuse .ensures ∙ ap (λ (d : Done). d .answer) e, ap (λ (d : Done). d .words) e)
 
 same-length-2 : tie.Need-same-length-2

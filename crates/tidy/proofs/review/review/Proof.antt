@@ -1,3 +1,4 @@
+-- `tidy::review::review` meets its contract. Assumes nothing.
 use borrow.Author.Needs.{needs}
 use denote.Ref.{now}
 use Rattle.tidy.proofs.Reviewing.{by-test}
@@ -20,13 +21,15 @@ returns : tie.Need-returns
 returns c =
     let a = c .before .before .before in
     let g = a .before .before .before .args in
-    by-test (now (g .t)) (g .c) (rw (a .before .slot-at .ensures) at (a .may-be-due .ensures)) (c .before .before .if1 .taken) (c .list .ensures)
+    by-test (now (g .t)) (g .c) (rw (a .before .slot-at .ensures) at (a .may-be-due .ensures))
+    (c .before .before .if1 .taken) (c .list .ensures)
 
 returns-2 : tie.Need-returns-2
 returns-2 c =
     let a = c .before .before .before in
     let g = a .before .before .before .args in
-    by-test (now (g .t)) (g .c) (rw (a .before .slot-at .ensures) at (a .may-be-due .ensures)) (c .before .before .if1 .left) (c .strike .ensures)
+    by-test (now (g .t)) (g .c) (rw (a .before .slot-at .ensures) at (a .may-be-due .ensures))
+    (c .before .before .if1 .left) (c .strike .ensures)
 
 pub review-spec : {M : Type 1} → statement M
 review-spec =

@@ -1,7 +1,8 @@
+-- `tidy::review::review_all` meets its contract. Assumes nothing.
 use Prim.Native.Nat.{_+_, _-_, _≤_}
 use native.Mathlib.Omega.{arith}
 use Rattle.tidy.specs.Reviewed.{AllReviewed}
-use Rattle.tidy.proofs.Reviewing.{all-on, all-off}
+use Rattle.tidy.proofs.Reviewing.{all-further, all-off}
 use Rattle.tidy.proofs.review.review_all.Statement.{statement}
 use Rattle.tidy.proofs.review.review_all.Tie as tie
 
@@ -30,7 +31,7 @@ loop-again : tie.Need-loop-again Inv-loop μ-loop
 loop-again c =
     let i = c .before .before .before .loop .inv in
     let z = c .before .before .before .before .before .pre .0 in
-    (all-on (i .0) (i .1) (z .most) (c .review .ensures), omega arith)
+    (all-further (i .0) (i .1) (z .most) (c .review .ensures), omega arith)
 
 returns : tie.Need-returns Inv-loop μ-loop
 returns c = all-off (c .before .loop .inv .0) (c .loop-test .left)

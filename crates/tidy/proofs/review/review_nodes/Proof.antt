@@ -1,3 +1,4 @@
+-- `tidy::review::review_nodes` meets its contract. Assumes nothing.
 use borrow.Author.Needs.{needs}
 use mathlib.Core.Path.{sym, _∙_}
 use Rattle.tidy.proofs.Reviewing.{two-looked, three-looked}

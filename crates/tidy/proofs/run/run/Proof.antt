@@ -1,12 +1,13 @@
+-- `tidy::run::run` meets its contract. Assumes nothing.
 use Prim.Native.Nat.{_-_}
 use native.Mathlib.Omega.{arith}
 use borrow.Author.Needs.{needs}
-use Rattle.tidy.proofs.Going.{Going, going-start, going-none, going-spent, going-fire, going-on}
+use Rattle.tidy.proofs.Going.{UnderWay, going-start, going-none, going-spent, going-fire, going-on}
 use Rattle.tidy.proofs.run.run.Statement.{statement}
 use Rattle.tidy.proofs.run.run.Tie as tie
 
 abbrev Inv-loop : tie.InvT-loop
-Inv-loop t₀ c h₀ m₀ budget made₀ t h m made = Going t₀ c budget t h m made
+Inv-loop t₀ c h₀ m₀ budget made₀ t h m made = UnderWay t₀ c budget t h m made
 
 abbrev μ-loop : tie.MeasureT-loop
 μ-loop t₀ c h₀ m₀ budget made₀ t h m made = budget - made
@@ -23,8 +24,8 @@ enum-told c = search needs
 enum-known-r : tie.Need-enum-known-r Inv-loop μ-loop
 enum-known-r c = search needs
 
-fire-requires : tie.Need-fire-requires Inv-loop μ-loop
-fire-requires c κs =
+fire-next-requires : tie.Need-fire-next-requires Inv-loop μ-loop
+fire-next-requires c κs =
     let a = c .before .before .before .before .before in
     let at = rw (a .r .given .1) at (a .before .before .next .ensures) in
     going-fire (a .before .before .before .before .before .before .loop .inv) at
@@ -42,18 +43,22 @@ loop-less c =
 
 loop-again : tie.Need-loop-again Inv-loop μ-loop
 loop-again c =
-    let a = c .before .before .before .before .before .before .before .before in
+    let w = c .before .before .before .before .before .before in
+    let a = w .before .before in
     let at = rw (a .r .given .1) at (a .before .before .next .ensures) in
-    going-on (a .before .before .before .before .before .before .loop .inv) at (c .before .before .before .before .before .before .if1 .left) (c .before .before .fire .ensures)
+    going-on (a .before .before .before .before .before .before .loop .inv) at (w .if1 .left)
+    (c .before .before .fire-next .ensures)
 
 same-length : tie.Need-same-length Inv-loop μ-loop
-same-length c = c .before .before .before .before .before .before .loop .inv .same-size
+same-length c = c .before .before .before .before .before .before .loop .inv .one-size
 
 returns : tie.Need-returns Inv-loop μ-loop
-returns c = going-none (c .before .before .before .before .before .before .loop .inv) (rw (c .enum-told .given .1) at (c .before .before .next .ensures))
+returns c =
+    let w = c .before .before .before .before .before .before in
+    going-none (w .loop .inv) (rw (c .enum-told .given .1) at (c .before .before .next .ensures))
 
 same-length-2 : tie.Need-same-length-2 Inv-loop μ-loop
-same-length-2 c = c .before .before .before .before .before .before .before .before .loop .inv .same-size
+same-length-2 c = c .before .before .before .before .before .before .before .before .loop .inv .one-size
 
 returns-2 : tie.Need-returns-2 Inv-loop μ-loop
 returns-2 c =
@@ -70,7 +75,7 @@ run-spec =
     next-requires
     enum-told
     enum-known-r
-    fire-requires
+    fire-next-requires
     add-made
     loop-less
     loop-again

@@ -1,3 +1,4 @@
+-- `tidy::scan::next` meets its contract. Assumes nothing.
 use Prim.Native.Nat.{_-_}
 use mathlib.Core.Path.{sym, _∙_}
 use mathlib.Core.Logic.{⊎-elim}
@@ -44,7 +45,10 @@ look-requires-2 : tie.Need-look-requires-2 Inv-loop μ-loop Inv-slots μ-slots
 look-requires-2 c κs = c .before .before .before .before .before .before .before .pre .whole .sized
 
 loop-holds : tie.Need-loop-holds Inv-loop μ-loop Inv-slots μ-slots
-loop-holds c = let a = c .before .before .before .before .before .before .before .before .args in trying-start (now (a .t)) (a .c) _
+loop-holds c =
+    let w = c .before .before .before .before .before .before .before .before in
+    let a = w .args in
+    trying-start (now (a .t)) (a .c) _
 
 of-requires : tie.Need-of-requires Inv-loop μ-loop Inv-slots μ-slots
 of-requires c κs = search needs
@@ -59,22 +63,30 @@ on-side-requires : tie.Need-on-side-requires Inv-loop μ-loop Inv-slots μ-slots
 on-side-requires c κs = search needs
 
 due-requires : tie.Need-due-requires Inv-loop μ-loop Inv-slots μ-slots
-due-requires c κs = c .before .before .before .before .before .before .before .before .before .before .before .before .before .before .before .pre .whole .sized
+due-requires c κs =
+    let w = c .before .before .before .before .before .before .before in
+    w .before .before .before .before .before .before .before .before .pre .whole .sized
 
 link-requires : tie.Need-link-requires Inv-loop μ-loop Inv-slots μ-slots
-link-requires c κs = omega (arith, c .before .before .before .before .before .before .before .before .before .before .before .before .if1 .left, c .before .before .before .before .before .before .before .before .before .before .before .before .before .before .before .before .before .pre .whole .sized .most)
+link-requires c κs =
+    let w = c .before .before .before .before .before .before .before .before .before .before .before .before in
+    omega (arith, w .if1 .left, w .before .before .before .before .before .pre .whole .sized .most)
 
 nodes-requires : tie.Need-nodes-requires Inv-loop μ-loop Inv-slots μ-slots
 nodes-requires c κs =
-    let b = c .before .before .before .before .before .before .before .before .before in
+    let w = c .before .before .before .before .before in
+    let y = w .before .before .before .before in
+    let b = y in
     let a = b .before .before .before .before .before .before .before .before .before in
     let p = a .pre in
-    let e = sym (c .before .before .before .before .before .before .before .of .ensures) ∙ c .before .before .before .before .before .r .given .1 in
-    let d = sym (seen-passes (now (a .args .t)) (a .args .c) _ _ e (b .before .before .before .slot-at .ensures)
+    let e = sym (w .before .before .of .ensures) ∙ w .r .given .1 in
+    let d = sym
+    (seen-passes (now (a .args .t)) (a .args .c) _ _ e (b .before .before .before .slot-at .ensures)
     (b .before .before .look .ensures) (b .before .look2 .ensures) (c .before .before .before .on-side .ensures)
     (c .before .before .due .ensures)) ∙ c .before .if2 .taken in
-    here-present (p .whole) (p .holds) (b .before .before .before .before .before .before .before .slots .inv) (b .before .before .before .before .before .lowest .ensures) (b .before .before .before .before .if1 .left) (b .loop .inv)
-    (c .before .before .before .before .before .before .before .before .loop-test .taken) e d (b .before .before .before .slot-at .ensures)
+    here-present (p .whole) (p .holds) (b .before .before .before .before .before .before .before .slots .inv)
+    (b .before .before .before .before .before .lowest .ensures) (b .before .before .before .before .if1 .left)
+    (b .loop .inv) (w .before .before .before .loop-test .taken) e d (b .before .before .before .slot-at .ensures)
 
 add-n : tie.Need-add-n Inv-loop μ-loop Inv-slots μ-slots
 add-n c = omega (arith, c .before .before .before .loop .inv .highest)
@@ -97,39 +109,50 @@ strike-requires : tie.Need-strike-requires Inv-loop μ-loop Inv-slots μ-slots
 strike-requires c κs =
     let b = c .before .before in
     let a = b .before .before .before .before .before .before .before .before .before in
-    let p = a .pre in
-    (b .before .before .before .before .before .before .before .slots .inv .agenda, omega (arith, b .before .before .before .before .if1 .left, p .whole .sized .most))
+    let p = a .pre in (
+      b .before .before .before .before .before .before .before .slots .inv .agenda,
+      omega
+          (arith, b .before .before .before .before .if1 .left, p .whole .sized .most),
+    )
 
 slots-less : tie.Need-slots-less Inv-loop μ-loop Inv-slots μ-slots
 slots-less c =
     let b = c .before .before .before in
     let a = b .before .before .before .before .before .before .before .before .before in
     let p = a .pre in
-    let on = slot-listed (b .before .before .before .before .before .before .before .slots .inv) (b .before .before .before .before .before .lowest .ensures) (b .before .before .before .before .if1 .left) (p .whole .sized .most) in
-    fewer (c .strike .ensures) (omega (arith, b .before .before .before .before .if1 .left, p .whole .sized .most)) on
+    let on = slot-listed (b .before .before .before .before .before .before .before .slots .inv)
+    (b .before .before .before .before .before .lowest .ensures) (b .before .before .before .before .if1 .left)
+    (p .whole .sized .most) in
+    fewer (c .strike .ensures) (omega (arith, b .before .before .before .before .if1 .left, p .whole .sized .most))
+    on
 
 slots-again : tie.Need-slots-again Inv-loop μ-loop Inv-slots μ-slots
 slots-again c =
     let b = c .before .before .before in
     let a = b .before .before .before .before .before .before .before .before .before in
     let p = a .pre in
-    struck-on (b .before .before .before .before .before .before .before .slots .inv) (b .before .before .before .before .before .lowest .ensures) (b .before .before .before .before .if1 .left) (p .whole .sized .most)
-    (trying-end (b .loop .inv) (c .before .before .loop-test .left)) (c .strike .ensures)
+    struck-on (b .before .before .before .before .before .before .before .slots .inv)
+    (b .before .before .before .before .before .lowest .ensures) (b .before .before .before .before .if1 .left)
+    (p .whole .sized .most) (trying-end (b .loop .inv) (c .before .before .loop-test .left)) (c .strike .ensures)
 
 returns : tie.Need-returns Inv-loop μ-loop Inv-slots μ-slots
 returns c = none-next (c .before .before .before .slots .inv) (c .before .lowest .ensures) (c .if1 .taken)
 
 returns-2 : tie.Need-returns-2 Inv-loop μ-loop Inv-slots μ-slots
 returns-2 c =
-    let b = c .before .before .before .before .before .before .before .before .before .before in
+    let w = c .before .before .before .before in
+    let y = w .before .before .before .before in
+    let b = y .before .before in
     let a = b .before .before .before .before .before .before .before .before .before in
     let p = a .pre in
-    let e = sym (c .before .before .before .before .before .before .before .before .of .ensures) ∙ c .before .before .before .before .before .before .r .given .1 in
-    let d = sym (seen-passes (now (a .args .t)) (a .args .c) _ _ e (b .before .before .before .slot-at .ensures)
-    (b .before .before .look .ensures) (b .before .look2 .ensures) (c .before .before .before .before .on-side .ensures)
+    let e = sym (y .of .ensures) ∙ w .before .before .r .given .1 in
+    let d = sym
+    (seen-passes (now (a .args .t)) (a .args .c) _ _ e (b .before .before .before .slot-at .ensures)
+    (b .before .before .look .ensures) (b .before .look2 .ensures) (w .on-side .ensures)
     (c .before .before .before .due .ensures)) ∙ c .before .before .if2 .taken in
-    next-here (p .whole) (p .holds) (b .before .before .before .before .before .before .before .slots .inv) (b .before .before .before .before .before .lowest .ensures) (b .before .before .before .before .if1 .left) (b .loop .inv)
-    (c .before .before .before .before .before .before .before .before .before .loop-test .taken) e d (c .before .link .ensures) (c .nodes .ensures)
+    next-here (p .whole) (p .holds) (b .before .before .before .before .before .before .before .slots .inv)
+    (b .before .before .before .before .before .lowest .ensures) (b .before .before .before .before .if1 .left)
+    (b .loop .inv) (y .before .loop-test .taken) e d (c .before .link .ensures) (c .nodes .ensures)
 
 pub next-spec : {M : Type 1} → statement M
 next-spec =

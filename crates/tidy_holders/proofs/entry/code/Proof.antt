@@ -1,6 +1,6 @@
 -- `tidy_holders::entry::code` meets its contract. Assumes nothing.
 use native.Mathlib.Omega.{arith}
-use Rattle.tidy_holders.specs.Codes.{codeOf}
+use Rattle.tidy_holders.specs.Codes.{linkNumber}
 use borrow.Author.Needs.{needs}
 use Rattle.tidy_holders.proofs.entry.code.Statement.{statement}
 use Rattle.tidy_holders.proofs.entry.code.Tie as tie
@@ -27,11 +27,11 @@ add-result : tie.Need-add-result
 add-result c = search needs
 
 returns : tie.Need-returns
-unfolding codeOf
+unfolding linkNumber
 returns c = simp (c .enum-told .given .1) (omega arith)
 
 returns-2 : tie.Need-returns-2
-unfolding codeOf
+unfolding linkNumber
 returns-2 c = simp (c .enum-told2 .given .1)
 
 pub code-spec : {M : Type 1} → statement M

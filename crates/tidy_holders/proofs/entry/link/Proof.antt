@@ -1,7 +1,7 @@
 -- `tidy_holders::entry::link` meets its contract. Assumes nothing.
 use mathlib.Core.Path.{sym}
 use borrow.Author.Tests.{eq-eqb, ne-eqb}
-use Rattle.tidy_holders.specs.Codes.{linkOf}
+use Rattle.tidy_holders.specs.Codes.{linkNumbered}
 use borrow.Author.Needs.{needs}
 use Rattle.tidy_holders.proofs.entry.link.Statement.{statement}
 use Rattle.tidy_holders.proofs.entry.link.Tie as tie
@@ -16,11 +16,11 @@ wide-requires : tie.Need-wide-requires
 wide-requires c κs = search needs
 
 returns : tie.Need-returns
-unfolding linkOf
+unfolding linkNumbered
 returns c = simp (sym (c .before .wide .ensures), eq-eqb _ _ (c .if1 .taken))
 
 returns-2 : tie.Need-returns-2
-unfolding linkOf
+unfolding linkNumbered
 returns-2 c = simp (sym (c .before .wide .ensures), ne-eqb _ _ (c .if1 .left))
 
 pub link-spec : {M : Type 1} → statement M

@@ -1,5 +1,5 @@
 -- `tidy_holders::entry::note` meets its contract. Assumes nothing.
-use Rattle.tidy_holders.proofs.Noting.Noted.{entered}
+use Rattle.tidy_holders.proofs.Noting.Noted.{entry-noted}
 use borrow.Author.Needs.{needs}
 use Rattle.tidy_holders.proofs.entry.note.Statement.{statement}
 use Rattle.tidy_holders.proofs.entry.note.Tie as tie
@@ -14,7 +14,7 @@ element-write-h : tie.Need-element-write-h
 element-write-h c = search needs
 
 returns : tie.Need-returns
-returns c = entered (c .before .pre) (c .code .ensures)
+returns c = entry-noted (c .before .pre) (c .code .ensures)
 
 pub note-spec : {M : Type 1} → statement M
 note-spec = tie.close (tie.spec code-requires mul-h element-write-h returns)

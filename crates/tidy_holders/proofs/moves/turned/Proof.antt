@@ -11,16 +11,29 @@ note-requires : tie.Need-note-requires
 note-requires c κs = search needs
 
 note-requires-2 : tie.Need-note-requires-2
-note-requires-2 c κs = let p = c .before .before .before .before .before .pre in record { room = c .before .note .ensures .room; slot = p .v-most; most = p .u-most }
+note-requires-2 c κs =
+    let w = c .before .before .before .before .before in
+    let p = w .pre in
+    record { room = c .before .note .ensures .room; slot = p .v-most; most = p .u-most }
 
 son-requires : tie.Need-son-requires
 son-requires c κs = search needs
 
 note-requires-3 : tie.Need-note-requires-3
-note-requires-3 c κs = let p = c .before .before .before .before .before .before .before .before .pre in record { room = c .before .before .note2 .ensures .room; slot = rw (c .son .ensures, c .before .before .before .before .before .before .other .ensures) (p .u-far); most = p .v-most }
+note-requires-3 c κs =
+    let w = c .before .before .before .before .before .before in
+    let p = w .before .before .pre in
+    record {
+      room = c .before .before .note2 .ensures .room;
+      slot = rw (c .son .ensures, w .other .ensures) (p .u-far);
+      most = p .v-most;
+    }
 
 returns : tie.Need-returns
-returns c = turned-noted (c .before .before .before .before .before .before .before .before .before .pre) (c .before .before .before .before .before .before .before .other .ensures) (c .before .son .ensures) (c .before .before .before .before .before .note .ensures) (c .before .before .before .note2 .ensures) (c .note3 .ensures)
+returns c =
+    let w = c .before .before .before .before .before in
+    turned-noted (w .before .before .before .before .pre) (w .before .before .other .ensures)
+    (c .before .son .ensures) (w .note .ensures) (c .before .before .before .note2 .ensures) (c .note3 .ensures)
 
 pub turned-spec : {M : Type 1} → statement M
 turned-spec =

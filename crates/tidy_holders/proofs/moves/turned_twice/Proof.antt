@@ -11,7 +11,9 @@ twice-sons-requires : tie.Need-twice-sons-requires
 twice-sons-requires c κs = still-moving (c .before .before .before .pre) (c .before .twice-top .ensures)
 
 returns : tie.Need-returns
-returns c = twice-noted (c .before .before .before .before .pre) (c .before .before .twice-top .ensures) (c .twice-sons .ensures)
+returns c =
+    let w = c .before .before .before .before in
+    twice-noted (w .pre) (c .before .before .twice-top .ensures) (c .twice-sons .ensures)
 
 pub turned-twice-spec : {M : Type 1} → statement M
 turned-twice-spec = tie.close (tie.spec twice-top-requires twice-sons-requires returns)

@@ -11,16 +11,28 @@ son-requires : tie.Need-son-requires
 son-requires c κs = search needs
 
 note-requires : tie.Need-note-requires
-note-requires c κs = let p = c .before .before .before .pre in record { room = p .room; slot = rw (c .son .ensures) (p .w-near); most = p .u-most }
+note-requires c κs =
+    let p = c .before .before .before .pre in
+    record { room = p .room; slot = rw (c .son .ensures) (p .w-near); most = p .u-most }
 
 son-requires-2 : tie.Need-son-requires-2
 son-requires-2 c κs = search needs
 
 note-requires-2 : tie.Need-note-requires-2
-note-requires-2 c κs = let p = c .before .before .before .before .before .before .pre in record { room = c .before .before .note .ensures .room; slot = rw (c .son2 .ensures, c .before .before .before .before .before .other .ensures) (p .w-far); most = p .v-most }
+note-requires-2 c κs =
+    let w = c .before .before .before .before .before in
+    let p = w .before .pre in
+    record {
+      room = c .before .before .note .ensures .room;
+      slot = rw (c .son2 .ensures, w .other .ensures) (p .w-far);
+      most = p .v-most;
+    }
 
 returns : tie.Need-returns
-returns c = low-noted (c .before .before .before .before .before .before .before .pre) (c .before .before .before .before .before .before .other .ensures) (c .before .before .before .before .son .ensures) (c .before .son2 .ensures) (c .before .before .before .note .ensures) (c .note2 .ensures)
+returns c =
+    let w = c .before .before .before .before in
+    low-noted (w .before .before .before .pre) (w .before .before .other .ensures) (w .son .ensures)
+    (c .before .son2 .ensures) (c .before .before .before .note .ensures) (c .note2 .ensures)
 
 pub twice-sons-spec : {M : Type 1} → statement M
 twice-sons-spec =

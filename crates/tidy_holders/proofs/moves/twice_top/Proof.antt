@@ -8,16 +8,25 @@ note-requires : tie.Need-note-requires
 note-requires c κs = search needs
 
 note-requires-2 : tie.Need-note-requires-2
-note-requires-2 c κs = let p = c .before .before .before .before .pre in record { room = c .before .note .ensures .room; slot = p .u-most; most = p .w-most }
+note-requires-2 c κs =
+    let w = c .before .before .before .before in
+    let p = w .pre in
+    record { room = c .before .note .ensures .room; slot = p .u-most; most = p .w-most }
 
 other-requires : tie.Need-other-requires
 other-requires c κs = search needs
 
 note-requires-3 : tie.Need-note-requires-3
-note-requires-3 c κs = let p = c .before .before .before .before .before .before .before .pre in record { room = c .before .before .note2 .ensures .room; slot = p .v-most; most = p .w-most }
+note-requires-3 c κs =
+    let w = c .before .before .before .before .before .before .before in
+    let p = w .pre in
+    record { room = c .before .before .note2 .ensures .room; slot = p .v-most; most = p .w-most }
 
 returns : tie.Need-returns
-returns c = top-noted (c .before .before .before .before .before .before .before .before .pre) (c .before .other .ensures) (c .before .before .before .before .before .note .ensures) (c .before .before .before .note2 .ensures) (c .note3 .ensures)
+returns c =
+    let w = c .before .before .before .before .before in
+    top-noted (w .before .before .before .pre) (c .before .other .ensures) (w .note .ensures)
+    (c .before .before .before .note2 .ensures) (c .note3 .ensures)
 
 pub twice-top-spec : {M : Type 1} → statement M
 twice-top-spec =

@@ -3,7 +3,8 @@ use Prim.Native.Nat.{_+_, _-_}
 use native.Mathlib.Omega.{arith}
 use denote.Ref.{now}
 use Rattle.spelling.proofs.Opened.{headed}
-use Rattle.tidy_holders.proofs.Noting.Filling.{Filling, root-most, filling-start, filling-sons, filling-on, filling-end}
+use Rattle.tidy_holders.proofs.Noting.Filling.{Filling, root-most, filling-start}
+use Rattle.tidy_holders.proofs.Noting.Filling.{filling-sons, filling-on, filling-end}
 use Rattle.tidy_holders.proofs.pass.fill.Statement.{statement}
 use Rattle.tidy_holders.proofs.pass.fill.Tie as tie
 
@@ -17,22 +18,30 @@ root-requires : tie.Need-root-requires Inv-loop μ-loop
 root-requires c κs = headed (c .before .before .pre .0)
 
 note-requires : tie.Need-note-requires Inv-loop μ-loop
-note-requires c κs = let p = c .before .before .before .pre in record { room = p .1; slot = rw (c .root .ensures) (root-most (p .0)); most = omega arith }
+note-requires c κs =
+    let p = c .before .before .before .pre in
+    record { room = p .1; slot = rw (c .root .ensures) (root-most (p .0)); most = omega arith }
 
 loop-holds : tie.Need-loop-holds Inv-loop μ-loop
-loop-holds c = let p = c .before .before .before .before .pre in filling-start (now (c .before .before .before .before .args .h)) (p .0) (c .before .root .ensures) (p .1) (c .note .ensures)
+loop-holds c =
+    let w = c .before .before .before .before in
+    let p = w .pre in
+    filling-start (now (w .args .h)) (p .0) (c .before .root .ensures) (p .1) (c .note .ensures)
 
 note-sons-requires : tie.Need-note-sons-requires Inv-loop μ-loop
 note-sons-requires c κs = filling-sons (c .before .before .loop .inv) (c .before .loop-test .taken)
 
 add-k : tie.Need-add-k Inv-loop μ-loop
-add-k c = omega (arith, c .before .before .before .before .before .before .before .before .pre .0 .sized .most, c .before .before .loop-test .taken)
+add-k c =
+    let w = c .before .before .before .before .before .before .before .before in
+    omega (arith, w .pre .0 .sized .most, c .before .before .loop-test .taken)
 
 loop-less : tie.Need-loop-less Inv-loop μ-loop
 loop-less c = omega (arith, c .before .before .loop-test .taken)
 
 loop-again : tie.Need-loop-again Inv-loop μ-loop
-loop-again c = filling-on (c .before .before .before .loop .inv) (c .before .before .loop-test .taken) (c .note-sons .ensures)
+loop-again c =
+    filling-on (c .before .before .before .loop .inv) (c .before .before .loop-test .taken) (c .note-sons .ensures)
 
 returns : tie.Need-returns Inv-loop μ-loop
 returns c = filling-end (c .before .loop .inv) (c .loop-test .left)

@@ -13,16 +13,27 @@ son-requires : tie.Need-son-requires
 son-requires c κs = search needs
 
 note-requires : tie.Need-note-requires
-note-requires c κs = let p = c .before .before .before .before .pre in let e = c .son .ensures ∙ ap (λ (s : Slot). s .left) (c .before .before .slot-at .ensures) in record { room = p .room; slot = rw e (p .left); most = p .most }
+note-requires c κs =
+    let w = c .before .before .before .before in
+    let p = w .pre in
+    let e = c .son .ensures ∙ ap (λ (s : Slot). s .left) (c .before .before .slot-at .ensures) in
+    record { room = p .room; slot = rw e (p .left); most = p .most }
 
 son-requires-2 : tie.Need-son-requires-2
 son-requires-2 c κs = search needs
 
 note-requires-2 : tie.Need-note-requires-2
-note-requires-2 c κs = let p = c .before .before .before .before .before .before .before .pre in let e = c .son2 .ensures ∙ ap (λ (s : Slot). s .right) (c .before .before .before .before .before .slot-at .ensures) in record { room = c .before .before .note .ensures .room; slot = rw e (p .right); most = p .most }
+note-requires-2 c κs =
+    let w = c .before .before .before .before .before in
+    let p = w .before .before .pre in
+    let e = c .son2 .ensures ∙ ap (λ (s : Slot). s .right) (w .slot-at .ensures) in
+    record { room = c .before .before .note .ensures .room; slot = rw e (p .right); most = p .most }
 
 returns : tie.Need-returns
-returns c = sons-noted (c .before .before .before .before .before .before .before .before .pre) (c .before .before .before .before .before .before .slot-at .ensures) (c .before .before .before .before .son .ensures) (c .before .son2 .ensures) (c .before .before .before .note .ensures) (c .note2 .ensures)
+returns c =
+    let w = c .before .before .before .before in
+    sons-noted (w .before .before .before .before .pre) (w .before .before .slot-at .ensures) (w .son .ensures)
+    (c .before .son2 .ensures) (c .before .before .before .note .ensures) (c .note2 .ensures)
 
 pub note-sons-spec : {M : Type 1} → statement M
 note-sons-spec =

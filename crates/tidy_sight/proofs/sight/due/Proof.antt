@@ -1,3 +1,4 @@
+-- `tidy_sight::sight::due` meets its contract. Assumes nothing.
 use mathlib.Core.Path.{sym, _∙_}
 use denote.Ref.{now}
 use Rattle.spelling.proofs.Laws.{in-table}
@@ -6,37 +7,25 @@ use Rattle.tidy_sight.proofs.Sights.{named, due-third, due-two}
 use borrow.Author.Needs.{needs}
 use Rattle.tidy_sight.proofs.sight.due.Statement.{statement}
 use Rattle.tidy_sight.proofs.sight.due.Tie as tie
-use Rattle.tidy_sight.proofs.sight.due.Reads as reads
-use Rattle.tidy_sight.proofs.sight.due.Lts as lts
-use Rattle.fire_aim.proofs.has_third.Reads as has-third-reads
-use Rattle.fire_guards.proofs.seen.Reads as seen-reads
-use Rattle.tidy_sight.proofs.sight.allowed.Reads as allowed-reads
-use Rattle.words.proofs.slot_at.Reads as slot-at-reads
 
--- src/sight.rt:79:12
 has-third-requires : tie.Need-has-third-requires
 has-third-requires c κs = search needs
 
--- src/sight.rt:81:55
 slot-at-requires : tie.Need-slot-at-requires
 slot-at-requires c κs =
     let a = c .before .before .before .before .before .before .before in
     let k = named (a .args .c) _ (c .if3 .taken) in
     in-table _ (a .pre) (k .0) (k .1)
 
--- src/sight.rt:81:37
 seen-requires : tie.Need-seen-requires
 seen-requires c κs = search needs
 
--- src/sight.rt:81:17
 allowed-requires : tie.Need-allowed-requires
 allowed-requires c κs = search needs
 
--- src/sight.rt:86:13
 allowed-requires-2 : tie.Need-allowed-requires-2
 allowed-requires-2 c κs = search needs
 
--- src/sight.rt:69:1
 returns : tie.Need-returns
 returns c =
     let a = c .before .before .before in
@@ -46,14 +35,12 @@ returns c =
     (sym (a .before .before .has-third .ensures) ∙ a .before .if2 .taken) (a .if3 .taken)
     (c .before .before .slot-at .ensures) (c .before .seen .ensures) (c .allowed .ensures)
 
--- src/sight.rt:69:1
 returns-2 : tie.Need-returns-2
 unfolding dueSeen
 returns-2 c =
     let b = c .before .before .before in
     simp (b .if1 .taken, sym (c .before .before .has-third .ensures), c .before .if2 .taken, c .if3 .left)
 
--- src/sight.rt:69:1
 returns-3 : tie.Need-returns-3
 returns-3 c =
     let b = c .before .before .before in
@@ -61,7 +48,6 @@ returns-3 c =
     due-two (now (g .t)) (g .c) (g .r) (g .x) (b .if1 .taken)
     (sym (c .before .before .has-third .ensures) ∙ c .before .if2 .left) (c .allowed2 .ensures)
 
--- src/sight.rt:69:1
 returns-4 : tie.Need-returns-4
 unfolding dueSeen
 returns-4 c = simp (c .if1 .left)

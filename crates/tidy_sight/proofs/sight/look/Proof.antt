@@ -1,3 +1,4 @@
+-- `tidy_sight::sight::look` meets its contract. Assumes nothing.
 use mathlib.Core.Path.{sym}
 use mathlib.Core.Bool.{not}
 use lib.Dec.{eqb}
@@ -9,41 +10,28 @@ use denote.Ref.{now}
 use borrow.Author.Needs.{needs}
 use Rattle.tidy_sight.proofs.sight.look.Statement.{statement}
 use Rattle.tidy_sight.proofs.sight.look.Tie as tie
-use Rattle.tidy_sight.proofs.sight.look.Reads as reads
-use Rattle.tidy_sight.proofs.sight.look.Lts as lts
-use Rattle.fire_guards.proofs.seen.Reads as seen-reads
-use Rattle.scope.proofs.side.Side.other.Reads as other-reads
-use Rattle.words.proofs.slot_at.Reads as slot-at-reads
-use Rattle.words.proofs.son.Reads as son-reads
 
--- src/sight.rt:28:9
 son-requires : tie.Need-son-requires
 son-requires c κs = search needs
 
--- src/sight.rt:29:9
 seen-requires : tie.Need-seen-requires
 seen-requires c κs = search needs
 
--- src/sight.rt:31:13
 slot-at-requires : tie.Need-slot-at-requires
 slot-at-requires c κs =
     let a = c .before .before .before .before .before in
     let k = named (a .args .c) _ (and-r (not (eqb (a .args .s .state) 0)) _ (c .if1 .taken)) in
     in-table _ (a .pre) (k .0) (k .1)
 
--- src/sight.rt:32:13
 seen-requires-2 : tie.Need-seen-requires-2
 seen-requires-2 c κs = search needs
 
--- src/sight.rt:33:32
 other-requires : tie.Need-other-requires
 other-requires c κs = search needs
 
--- src/sight.rt:33:13
 son-requires-2 : tie.Need-son-requires-2
 son-requires-2 c κs = search needs
 
--- src/sight.rt:24:1
 returns : tie.Need-returns
 returns c =
     let a = c .before .before .before .before in

@@ -1,44 +1,34 @@
+-- `tidy_sight::sight::nodes` meets its contract. Assumes nothing.
 use mathlib.Core.Path.{sym, _∙_}
 use denote.Ref.{now}
 use Rattle.tidy_sight.proofs.Sights.{u-there, w-there, nodes-third, nodes-two}
 use borrow.Author.Needs.{needs}
 use Rattle.tidy_sight.proofs.sight.nodes.Statement.{statement}
 use Rattle.tidy_sight.proofs.sight.nodes.Tie as tie
-use Rattle.tidy_sight.proofs.sight.nodes.Reads as reads
-use Rattle.tidy_sight.proofs.sight.nodes.Lts as lts
-use Rattle.fire_aim.proofs.has_third.Reads as has-third-reads
-use Rattle.scope.proofs.side.Side.other.Reads as other-reads
-use Rattle.words.proofs.slot_at.Reads as slot-at-reads
-use Rattle.words.proofs.son.Reads as son-reads
 
--- src/sight.rt:100:9
 son-requires : tie.Need-son-requires
 son-requires c κs = search needs
 
--- src/sight.rt:101:9
 slot-at-requires : tie.Need-slot-at-requires
 slot-at-requires c κs = rw (c .son .ensures) (u-there (c .before .before .pre))
 
--- src/sight.rt:102:8
 has-third-requires : tie.Need-has-third-requires
 has-third-requires c κs = search needs
 
--- src/sight.rt:103:32
 other-requires : tie.Need-other-requires
 other-requires c κs = search needs
 
--- src/sight.rt:103:13
 son-requires-2 : tie.Need-son-requires-2
 son-requires-2 c κs = search needs
 
--- src/sight.rt:104:13
 slot-at-requires-2 : tie.Need-slot-at-requires-2
 slot-at-requires-2 c κs =
     let a = c .before .before .before in
-    let there = w-there (a .before .before .before .before .pre) (sym (a .has-third .ensures) ∙ c .before .before .if1 .taken) in
-    rw (c .son2 .ensures, c .before .other .ensures, a .before .slot-at .ensures, a .before .before .son .ensures) there
+    let there = w-there (a .before .before .before .before .pre)
+    (sym (a .has-third .ensures) ∙ c .before .before .if1 .taken) in
+    rw (c .son2 .ensures, c .before .other .ensures, a .before .slot-at .ensures, a .before .before .son .ensures)
+    there
 
--- src/sight.rt:94:1
 returns : tie.Need-returns
 returns c =
     let a = c .before .before .before .before in
@@ -48,7 +38,6 @@ returns c =
     (sym (a .has-third .ensures) ∙ c .before .before .before .if1 .taken)
     (c .before .before .other .ensures) (c .before .son2 .ensures) (c .slot-at2 .ensures)
 
--- src/sight.rt:94:1
 returns-2 : tie.Need-returns-2
 returns-2 c =
     let a = c .before .before in

@@ -1,21 +1,28 @@
+-- `tidy::run::act_and_note` meets its contract. Assumes nothing.
 use borrow.Author.Needs.{needs}
 use Rattle.scope.specs.declared.rule.Kind.the-variants.{Propagate, Lean, Even, Double}
 use Rattle.fire_act.proofs.Acting.{asked}
 use Rattle.tidy.proofs.Firing.{acted-alone, acted-noted}
-use Rattle.tidy.proofs.run.act.Statement.{statement}
-use Rattle.tidy.proofs.run.act.Tie as tie
+use Rattle.tidy.proofs.run.act_and_note.Statement.{statement}
+use Rattle.tidy.proofs.run.act_and_note.Tie as tie
 
 enum-told : tie.Need-enum-told
 enum-told c = search needs
 
 propagate-requires : tie.Need-propagate-requires
-propagate-requires c κs = let p = c .before .before .before .before .pre in asked (p .sized) (p .within) Propagate (c .before .enum-told .given .1)
+propagate-requires c κs =
+    let w = c .before .before .before .before in
+    let p = w .pre in
+    asked (p .sized) (p .within) Propagate (c .before .enum-told .given .1)
 
 enum-told-2 : tie.Need-enum-told-2
 enum-told-2 c = search needs
 
 rotate-requires : tie.Need-rotate-requires
-rotate-requires c κs = let p = c .before .before .before .before .pre in asked (p .sized) (p .within) Lean (c .before .enum-told2 .given .1)
+rotate-requires c κs =
+    let w = c .before .before .before .before in
+    let p = w .pre in
+    asked (p .sized) (p .within) Lean (c .before .enum-told2 .given .1)
 
 turned-requires : tie.Need-turned-requires
 turned-requires c κs = search needs
@@ -24,7 +31,10 @@ enum-told-3 : tie.Need-enum-told-3
 enum-told-3 c = search needs
 
 rotate-requires-2 : tie.Need-rotate-requires-2
-rotate-requires-2 c κs = let p = c .before .before .before .before .pre in asked (p .sized) (p .within) Even (c .before .enum-told3 .given .1)
+rotate-requires-2 c κs =
+    let w = c .before .before .before .before in
+    let p = w .pre in
+    asked (p .sized) (p .within) Even (c .before .enum-told3 .given .1)
 
 turned-requires-2 : tie.Need-turned-requires-2
 turned-requires-2 c κs = search needs
@@ -33,7 +43,10 @@ enum-told-4 : tie.Need-enum-told-4
 enum-told-4 c = search needs
 
 rotate-twice-requires : tie.Need-rotate-twice-requires
-rotate-twice-requires c κs = let p = c .before .before .before .before .pre in asked (p .sized) (p .within) Double (c .before .enum-told4 .given .1)
+rotate-twice-requires c κs =
+    let w = c .before .before .before .before in
+    let p = w .pre in
+    asked (p .sized) (p .within) Double (c .before .enum-told4 .given .1)
 
 turned-twice-requires : tie.Need-turned-twice-requires
 turned-twice-requires c κs = search needs
@@ -51,30 +64,33 @@ same-length-2 c = search needs
 
 returns-2 : tie.Need-returns-2
 returns-2 c =
-    let a = c .before .before .before .before .before .before in
+    let w = c .before .before .before .before in
+    let a = w .before .before in
     let p = a .before .before .before .pre in
-    acted-noted p Lean (a .enum-told2 .given .1) (c .before .before .before .before .rotate .ensures) (c .turned .ensures)
+    acted-noted p Lean (a .enum-told2 .given .1) (w .rotate .ensures) (c .turned .ensures)
 
 same-length-3 : tie.Need-same-length-3
 same-length-3 c = search needs
 
 returns-3 : tie.Need-returns-3
 returns-3 c =
-    let a = c .before .before .before .before .before .before in
+    let w = c .before .before .before .before in
+    let a = w .before .before in
     let p = a .before .before .before .pre in
-    acted-noted p Even (a .enum-told3 .given .1) (c .before .before .before .before .rotate2 .ensures) (c .turned2 .ensures)
+    acted-noted p Even (a .enum-told3 .given .1) (w .rotate2 .ensures) (c .turned2 .ensures)
 
 same-length-4 : tie.Need-same-length-4
 same-length-4 c = search needs
 
 returns-4 : tie.Need-returns-4
 returns-4 c =
-    let a = c .before .before .before .before .before .before in
+    let w = c .before .before .before .before in
+    let a = w .before .before in
     let p = a .before .before .before .pre in
-    acted-noted p Double (a .enum-told4 .given .1) (c .before .before .before .before .rotate-twice .ensures) (c .turned-twice .ensures)
+    acted-noted p Double (a .enum-told4 .given .1) (w .rotate-twice .ensures) (c .turned-twice .ensures)
 
-pub act-spec : {M : Type 1} → statement M
-act-spec =
+pub act-and-note-spec : {M : Type 1} → statement M
+act-and-note-spec =
     tie.close
     (tie.spec
     enum-told
