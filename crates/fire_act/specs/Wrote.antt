@@ -11,7 +11,7 @@ use Rattle.spelling.specs.Ready.{Sized}
 use Rattle.fire_aim.specs.Aimed.{NodesInside}
 
 -- slot k of a table of c slots
-pub record SlotIn (t : List ℕ) (c k : ℕ) : Type 0 where
+pub record SlotThere (t : List ℕ) (c k : ℕ) : Type 0 where
   pub sized : Sized t c
   pub first : 1 ≤ k
   pub most : k ≤ c

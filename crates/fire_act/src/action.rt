@@ -1,7 +1,7 @@
 // The actions, each over the side of its rule: links first, then registers.
+use crate::put::copy_register;
 use crate::put::put_branch;
 use crate::put::put_height;
-use crate::put::put_register;
 use crate::put::put_son;
 use crate::put::put_top;
 use scope::Kind;
@@ -50,7 +50,7 @@ pub fn rotate_heights(t: &mut [u32], c: usize, n: Nodes, near: Side)
     let far = near.other();
     let v = fire_guards::seen(n.sv, near);
     let u = fire_guards::seen(n.su, near);
-    put_register(t, c, n.v, near, u.far);
+    copy_register(t, c, n.v, near, u.far);
     put_height(t, c, n.u, far, fire_guards::over(u.far, v.far));
 }
 
@@ -89,8 +89,8 @@ pub fn twice_copied(t: &mut [u32], c: usize, n: Nodes, near: Side)
     ensures { λ _. ⌜ Kept c (written (now (t .entry)) (writes (twiceCopied near n))) (now (t .exit)) ⌝ }
 {
     let w = fire_guards::seen(n.sw, near);
-    put_register(t, c, n.u, near.other(), w.near);
-    put_register(t, c, n.v, near, w.far);
+    copy_register(t, c, n.u, near.other(), w.near);
+    copy_register(t, c, n.v, near, w.far);
 }
 
 // w's registers take the new local heights of u and v.

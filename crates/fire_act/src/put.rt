@@ -4,7 +4,7 @@ use scope::Side;
 ghost use Prim.Native.Nat.{_≤_};
 ghost use Rattle.scope.specs.Edits.{sonOn, registerOn, placeOf};
 ghost use Rattle.spelling.specs.Ready.{Sized};
-ghost use Rattle.fire_act.specs.Wrote.{Wrote, SlotIn};
+ghost use Rattle.fire_act.specs.Wrote.{Wrote, SlotThere};
 
 // A slot's number, or 0, at a link.
 pub fn put_top(t: &mut [u32], c: usize, link: Link, k: usize)
@@ -16,7 +16,7 @@ pub fn put_top(t: &mut [u32], c: usize, link: Link, k: usize)
 
 // The same at a side of a slot.
 pub fn put_son(t: &mut [u32], c: usize, holder: usize, side: Side, k: usize)
-    requires { ⌜ SlotIn (now t) c holder × (k ≤ c) ⌝ }
+    requires { ⌜ SlotThere (now t) c holder × (k ≤ c) ⌝ }
     ensures { λ _. ⌜ Wrote (now (t .entry)) c (placeOf holder (sonOn side)) k (now (t .exit)) ⌝ }
 {
     words::put_link(t, Link { holder, side }, k);
@@ -24,21 +24,21 @@ pub fn put_son(t: &mut [u32], c: usize, holder: usize, side: Side, k: usize)
 
 // What hung elsewhere, at a side of a slot.
 pub fn put_branch(t: &mut [u32], c: usize, holder: usize, side: Side, branch: u32)
-    requires { ⌜ SlotIn (now t) c holder ⌝ }
+    requires { ⌜ SlotThere (now t) c holder ⌝ }
     ensures { λ _. ⌜ Wrote (now (t .entry)) c (placeOf holder (sonOn side)) branch (now (t .exit)) ⌝ }
 {
     words::put_link_word(t, Link { holder, side }, branch);
 }
 
-pub fn put_register(t: &mut [u32], c: usize, k: usize, side: Side, height: u32)
-    requires { ⌜ SlotIn (now t) c k ⌝ }
+pub fn copy_register(t: &mut [u32], c: usize, k: usize, side: Side, height: u32)
+    requires { ⌜ SlotThere (now t) c k ⌝ }
     ensures { λ _. ⌜ Wrote (now (t .entry)) c (placeOf k (registerOn side)) height (now (t .exit)) ⌝ }
 {
     words::put_register(t, k, side, height);
 }
 
 pub fn put_height(t: &mut [u32], c: usize, k: usize, side: Side, height: u64)
-    requires { ⌜ SlotIn (now t) c k × (height ≤ 65535) ⌝ }
+    requires { ⌜ SlotThere (now t) c k × (height ≤ 65535) ⌝ }
     ensures { λ _. ⌜ Wrote (now (t .entry)) c (placeOf k (registerOn side)) height (now (t .exit)) ⌝ }
 {
     words::put_register(t, k, side, height as u32);

@@ -30,10 +30,6 @@ Beside a (node d x y l r) = Unit {0}
 abbrev pub Relaxed : Tree → Type 0
 Relaxed = Each (λ a b T. Beside a T)
 
--- no register is above a limit
-abbrev pub Low : ℕ → Tree → Type 0
-Low limit = Each (λ a b T. a ≤ limit)
-
 -- no carry is negative
 abbrev pub Covers : ℕ → Tree → Type 0
 Covers a T = topHeight T ≤ a

@@ -10,15 +10,6 @@ use Rattle.amend.proofs.amending_at.Tie as tie
 enum-told : tie.Need-enum-told
 enum-told c = search needs
 
-enum-told-2 : tie.Need-enum-told-2
-enum-told-2 c = search needs
-
-enum-known-w : tie.Need-enum-known-w
-enum-known-w c = search needs
-
-change-requires : tie.Need-change-requires
-change-requires c κs = search needs
-
 returns : tie.Need-returns
 unfolding amendingAt
 returns c = record { is = simp (c .enum-told .given .1); can = tt }
@@ -52,4 +43,5 @@ returns-4 c =
 pub amending-at-spec : {M : Type 1} → statement M
 amending-at-spec =
     tie.close
-    (tie.spec enum-told enum-told-2 enum-known-w change-requires returns returns-2 returns-3 returns-4)
+    (tie.spec enum-told (λ c. search needs) (λ c. search needs) (λ c κs. search needs) returns returns-2 returns-3
+    returns-4)

@@ -4,21 +4,6 @@ use Rattle.drop.proofs.Written.{lifted-by}
 use Rattle.drop.proofs.lift.Statement.{statement}
 use Rattle.drop.proofs.lift.Tie as tie
 
-records-requires : tie.Need-records-requires
-records-requires c κs = search needs
-
-change-requires : tie.Need-change-requires
-change-requires c κs = search needs
-
-relink-requires : tie.Need-relink-requires
-relink-requires c κs = search needs
-
-vacate-requires : tie.Need-vacate-requires
-vacate-requires c κs = search needs
-
-same-length : tie.Need-same-length
-same-length c = search needs
-
 returns : tie.Need-returns
 returns c =
     let b = c .before .before .before .before .before .before in
@@ -28,4 +13,5 @@ returns c =
 pub lift-spec : {M : Type 1} → statement M
 lift-spec =
     tie.close
-    (tie.spec records-requires change-requires relink-requires vacate-requires same-length returns)
+    (tie.spec (λ c κs. search needs) (λ c κs. search needs) (λ c κs. search needs) (λ c κs. search needs)
+    (λ c. search needs) returns)

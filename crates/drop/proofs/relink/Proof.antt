@@ -12,9 +12,6 @@ put-link-requires : tie.Need-put-link-requires
 put-link-requires c κs =
     let p = c .before .before .pre in (omega arith, link-lt _ _ _ (p .sized) (p .held), omega arith)
 
-same-length : tie.Need-same-length
-same-length c = search needs
-
 returns : tie.Need-returns
 unfolding relinked
 returns c = simp (c .if1 .taken) (c .before .before .before .put-link .ensures)
@@ -27,9 +24,6 @@ put-register-requires c κs =
     let h = held-by (s .args .son) (l .holder) (c .before .if1 .left) in
     (h, omega arith, omega (arith, register-lt _ _ _ (l .side) (p .sized) h (p .held)))
 
-same-length-2 : tie.Need-same-length-2
-same-length-2 c = search needs
-
 returns-2 : tie.Need-returns-2
 unfolding relinked
 returns-2 c =
@@ -39,4 +33,4 @@ returns-2 c =
 pub relink-spec : {M : Type 1} → statement M
 relink-spec =
     tie.close
-    (tie.spec put-link-requires same-length returns put-register-requires same-length-2 returns-2)
+    (tie.spec put-link-requires (λ c. search needs) returns put-register-requires (λ c. search needs) returns-2)

@@ -5,21 +5,6 @@ use Rattle.drop.proofs.Written.{replaced-by}
 use Rattle.drop.proofs.replace.Statement.{statement}
 use Rattle.drop.proofs.replace.Tie as tie
 
-records-requires : tie.Need-records-requires
-records-requires c κs = search needs
-
-change-requires : tie.Need-change-requires
-change-requires c κs = search needs
-
-slot-at-requires : tie.Need-slot-at-requires
-slot-at-requires c κs = search needs
-
-take-record-requires : tie.Need-take-record-requires
-take-record-requires c κs = search needs
-
-wide-requires : tie.Need-wide-requires
-wide-requires c κs = search needs
-
 relink-requires : tie.Need-relink-requires
 relink-requires c κs =
     let b = c .before .before .before .before .before .before in
@@ -30,12 +15,6 @@ relink-requires c κs =
       held = p .inside .2;
       below = simp (c .wide .ensures, b .slot-at .ensures) (p .inside .3);
     }
-
-vacate-requires : tie.Need-vacate-requires
-vacate-requires c κs = search needs
-
-same-length : tie.Need-same-length
-same-length c = search needs
 
 returns : tie.Need-returns
 returns c =
@@ -48,5 +27,5 @@ returns c =
 pub replace-spec : {M : Type 1} → statement M
 replace-spec =
     tie.close
-    (tie.spec records-requires change-requires slot-at-requires take-record-requires wide-requires relink-requires
-    vacate-requires same-length returns)
+    (tie.spec (λ c κs. search needs) (λ c κs. search needs) (λ c κs. search needs) (λ c κs. search needs)
+    (λ c κs. search needs) relink-requires (λ c κs. search needs) (λ c. search needs) returns)

@@ -13,12 +13,6 @@ use Rattle.drop_plan.proofs.drop_at.Tie as tie
 slot-at-requires : tie.Need-slot-at-requires
 slot-at-requires c κs = let p = c .before .pre in in-table _ (p .ready .sized) (p .first) (p .last)
 
-wide-requires : tie.Need-wide-requires
-wide-requires c κs = search needs
-
-wide-requires-2 : tie.Need-wide-requires-2
-wide-requires-2 c κs = search needs
-
 if-may-requires : tie.Need-if-may-requires
 if-may-requires c κs =
     let r = c .before .before .before in
@@ -56,9 +50,6 @@ returns-2 c =
     )
     (c .if-may2 .ensures)
 
-sub-replacing : tie.Need-sub-replacing
-sub-replacing c = search needs
-
 replacing-requires : tie.Need-replacing-requires
 replacing-requires c κs =
     let r = c .before .before .before .before in
@@ -81,5 +72,5 @@ returns-3 c =
 pub drop-at-spec : {M : Type 1} → statement M
 drop-at-spec =
     tie.close
-    (tie.spec slot-at-requires wide-requires wide-requires-2 if-may-requires returns if-may-requires-2 returns-2
-    sub-replacing replacing-requires returns-3)
+    (tie.spec slot-at-requires (λ c κs. search needs) (λ c κs. search needs) if-may-requires returns
+    if-may-requires-2 returns-2 (λ c. search needs) replacing-requires returns-3)

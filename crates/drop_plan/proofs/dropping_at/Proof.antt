@@ -7,12 +7,6 @@ use Rattle.drop_plan.proofs.dropping_at.Tie as tie
 enum-told : tie.Need-enum-told
 enum-told c = search needs
 
-enum-told-2 : tie.Need-enum-told-2
-enum-told-2 c = search needs
-
-enum-known-w : tie.Need-enum-known-w
-enum-known-w c = search needs
-
 drop-at-requires : tie.Need-drop-at-requires
 drop-at-requires c κs =
     let p = c .before .before .before .before .pre in
@@ -41,4 +35,4 @@ returns-3 c = simp (c .before .before .w .given .1) (c .drop-at .ensures)
 pub dropping-at-spec : {M : Type 1} → statement M
 dropping-at-spec =
     tie.close
-    (tie.spec enum-told enum-told-2 enum-known-w drop-at-requires returns returns-2 returns-3)
+    (tie.spec enum-told (λ c. search needs) (λ c. search needs) drop-at-requires returns returns-2 returns-3)

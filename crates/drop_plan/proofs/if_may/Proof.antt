@@ -9,15 +9,9 @@ use Rattle.drop_plan.proofs.Plans.{can-drop}
 use Rattle.drop_plan.proofs.if_may.Statement.{statement}
 use Rattle.drop_plan.proofs.if_may.Tie as tie
 
-records-requires : tie.Need-records-requires
-records-requires c κs = search needs
-
 returns : tie.Need-returns
 unfolding ifMay
 returns c = record { is = simp (sym (c .before .records .ensures), eq-eqb _ _ (c .if1 .taken)); can = tt }
-
-change-requires : tie.Need-change-requires
-change-requires c κs = search needs
 
 returns-2 : tie.Need-returns-2
 unfolding ifMay
@@ -44,4 +38,4 @@ returns-3 c =
     }
 
 pub if-may-spec : {M : Type 1} → statement M
-if-may-spec = tie.close (tie.spec records-requires returns change-requires returns-2 returns-3)
+if-may-spec = tie.close (tie.spec (λ c κs. search needs) returns (λ c κs. search needs) returns-2 returns-3)

@@ -7,15 +7,6 @@ use Rattle.drop_plan.proofs.Hits.{hit-fits}
 use Rattle.drop_plan.proofs.plan_drop.Statement.{statement}
 use Rattle.drop_plan.proofs.plan_drop.Tie as tie
 
-enter-requires : tie.Need-enter-requires
-enter-requires c κs = search needs
-
-enum-known-why : tie.Need-enum-known-why
-enum-known-why c = search needs
-
-enum-known-c : tie.Need-enum-known-c
-enum-known-c c = search needs
-
 search-requires : tie.Need-search-requires
 search-requires c κs = gate-ready _ _ _ (sym (c .before .before .before .enter .ensures) ∙ c .before .c .given .1)
 
@@ -39,4 +30,5 @@ returns-2 c =
 pub plan-drop-spec : {M : Type 1} → statement M
 plan-drop-spec =
     tie.close
-    (tie.spec enter-requires enum-known-why enum-known-c search-requires dropping-at-requires returns returns-2)
+    (tie.spec (λ c κs. search needs) (λ c. search needs) (λ c. search needs) search-requires dropping-at-requires
+    returns returns-2)

@@ -6,14 +6,8 @@ use Rattle.gate.specs.AtSlot.{AtSlot}
 use Rattle.drop_plan.proofs.replacing.Statement.{statement}
 use Rattle.drop_plan.proofs.replacing.Tie as tie
 
-leftmost-requires : tie.Need-leftmost-requires
-leftmost-requires c κs = search needs
-
 enum-told : tie.Need-enum-told
 enum-told c = search needs
-
-enum-known-least : tie.Need-enum-known-least
-enum-known-least c = search needs
 
 if-may-requires : tie.Need-if-may-requires
 if-may-requires c κs =
@@ -35,4 +29,4 @@ returns-2 c =
 pub replacing-spec : {M : Type 1} → statement M
 replacing-spec =
     tie.close
-    (tie.spec leftmost-requires enum-told enum-known-least if-may-requires returns returns-2)
+    (tie.spec (λ c κs. search needs) enum-told (λ c. search needs) if-may-requires returns returns-2)

@@ -6,9 +6,6 @@ use Rattle.fire.proofs.Planned.{ready, aimed-on, aimed-off}
 use Rattle.fire.proofs.aim_at.Statement.{statement}
 use Rattle.fire.proofs.aim_at.Tie as tie
 
-header-ok-requires : tie.Need-header-ok-requires
-header-ok-requires c κs = search needs
-
 aim-requires : tie.Need-aim-requires
 aim-requires c κs = let p = c .before .before .before .pre in (ready (p .0) (sym (c .before .header-ok .ensures) ∙ c .if1 .taken), p .1)
 
@@ -21,4 +18,4 @@ returns-2 c = let a = c .before .before .before .args in
     aimed-off (now (a .t)) (a .c) (a .r) (a .link) (sym (c .before .header-ok .ensures) ∙ c .if1 .left)
 
 pub aim-at-spec : {M : Type 1} → statement M
-aim-at-spec = tie.close (tie.spec header-ok-requires aim-requires returns returns-2)
+aim-at-spec = tie.close (tie.spec (λ c κs. search needs) aim-requires returns returns-2)

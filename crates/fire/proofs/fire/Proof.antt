@@ -9,32 +9,14 @@ use Rattle.scope.specs.Answers.{Done}
 use Rattle.fire.proofs.fire.Statement.{statement}
 use Rattle.fire.proofs.fire.Tie as tie
 
-capacity-requires : tie.Need-capacity-requires
-capacity-requires c κs = search needs
-
 enum-told : tie.Need-enum-told
 enum-told c = search needs
-
-refuse-requires : tie.Need-refuse-requires
-refuse-requires c κs = search needs
-
-enum-known-s : tie.Need-enum-known-s
-enum-known-s c = search needs
 
 plan-in-requires : tie.Need-plan-in-requires
 plan-in-requires c κs =
     let b4 = c .before .before .before .before in
     let b6 = b4 .before .before in
     slots-room (now (b6 .args .t)) _ (sym (b4 .capacity .ensures) ∙ c .before .before .s .given .1)
-
-enum-known-why : tie.Need-enum-known-why
-enum-known-why c = search needs
-
-refuse-requires-2 : tie.Need-refuse-requires-2
-refuse-requires-2 c κs = search needs
-
-enum-known-r : tie.Need-enum-known-r
-enum-known-r c = search needs
 
 change-requires : tie.Need-change-requires
 change-requires c κs =
@@ -56,12 +38,6 @@ act-requires c κs =
           (b6 .plan-in .ensures .may),
     )
 
-long-requires : tie.Need-long-requires
-long-requires c κs = search needs
-
-accept-requires : tie.Need-accept-requires
-accept-requires c κs = search needs
-
 returns : tie.Need-returns
 returns c =
     let b3 = c .before .before .before in
@@ -70,9 +46,6 @@ returns c =
     let e = sym (fire-shut (now (a .t)) (a .rule) (a .holder) (a .side)
     (sym (b3 .capacity .ensures) ∙ c .before .enum-told .given .1)) in
     (c .refuse .ensures ∙ ap (λ (d : Done). d .answer) e, ap (λ (d : Done). d .words) e)
-
-same-length : tie.Need-same-length
-same-length c = search needs
 
 returns-2 : tie.Need-returns-2
 returns-2 c =
@@ -85,9 +58,6 @@ returns-2 c =
     (sym (b9 .capacity .ensures) ∙ b7 .s .given .1)
     (sym (c .before .before .why .given .1) ∙ b4 .plan-in .ensures .is)) in
     (c .refuse2 .ensures ∙ ap (λ (d : Done). d .answer) e, ap (λ (d : Done). d .words) e)
-
-same-length-2 : tie.Need-same-length-2
-same-length-2 c = search needs
 
 returns-3 : tie.Need-returns-3
 returns-3 c =
@@ -108,6 +78,7 @@ returns-3 c =
 pub fire-spec : {M : Type 1} → statement M
 fire-spec =
     tie.close
-    (tie.spec capacity-requires enum-told refuse-requires enum-known-s plan-in-requires enum-known-why
-    refuse-requires-2 enum-known-r change-requires act-requires long-requires accept-requires returns same-length
-    returns-2 same-length-2 returns-3)
+    (tie.spec (λ c κs. search needs) enum-told (λ c κs. search needs) (λ c. search needs) plan-in-requires
+    (λ c. search needs) (λ c κs. search needs) (λ c. search needs) change-requires act-requires
+    (λ c κs. search needs) (λ c κs. search needs) returns (λ c. search needs) returns-2 (λ c. search needs)
+    returns-3)

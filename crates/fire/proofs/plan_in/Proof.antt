@@ -5,23 +5,8 @@ use Rattle.fire.proofs.Planned.{link-holder}
 use Rattle.fire.proofs.plan_in.Statement.{statement}
 use Rattle.fire.proofs.plan_in.Tie as tie
 
-of-requires : tie.Need-of-requires
-of-requires c κs = search needs
-
 enum-told : tie.Need-enum-told
 enum-told c = search needs
-
-enum-known-r : tie.Need-enum-known-r
-enum-known-r c = search needs
-
-of-requires-2 : tie.Need-of-requires-2
-of-requires-2 c κs = search needs
-
-enum-told-2 : tie.Need-enum-told-2
-enum-told-2 c = search needs
-
-enum-known-link : tie.Need-enum-known-link
-enum-known-link c = search needs
 
 aim-at-requires : tie.Need-aim-at-requires
 aim-at-requires c κs =
@@ -59,5 +44,5 @@ returns-3 c = record {
 pub plan-in-spec : {M : Type 1} → statement M
 plan-in-spec =
     tie.close
-    (tie.spec of-requires enum-told enum-known-r of-requires-2 enum-told-2 enum-known-link aim-at-requires returns
-    returns-2 returns-3)
+    (tie.spec (λ c κs. search needs) enum-told (λ c. search needs) (λ c κs. search needs) (λ c. search needs)
+    (λ c. search needs) aim-at-requires returns returns-2 returns-3)

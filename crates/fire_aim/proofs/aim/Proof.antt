@@ -16,9 +16,6 @@ returns c =
     let p = b3 .pre in
     aim-root (p .0) (b3 .args .r) (b3 .args .link) (p .1) (c .before .if1 .taken) (c .aim-v .ensures)
 
-slot-at-requires : tie.Need-slot-at-requires
-slot-at-requires c κs = search needs
-
 returns-2 : tie.Need-returns-2
 returns-2 c =
     let b3 = c .before .before .before in
@@ -26,9 +23,6 @@ returns-2 c =
     let p = b5 .pre in
     aim-free (p .0) (b5 .args .r) (b5 .args .link) (p .1) (b3 .if1 .left) (c .before .before .slot-at .ensures)
     (c .if2 .taken)
-
-fit-requires : tie.Need-fit-requires
-fit-requires c κs = search needs
 
 aim-v-requires-2 : tie.Need-aim-v-requires-2
 aim-v-requires-2 c κs =
@@ -61,4 +55,5 @@ returns-4 c =
 pub aim-spec : {M : Type 1} → statement M
 aim-spec =
     tie.close
-    (tie.spec aim-v-requires returns slot-at-requires returns-2 fit-requires aim-v-requires-2 returns-3 returns-4)
+    (tie.spec aim-v-requires returns (λ c κs. search needs) returns-2 (λ c κs. search needs) aim-v-requires-2
+    returns-3 returns-4)

@@ -8,20 +8,8 @@ use Rattle.spelling.proofs.Laws.{fit-son}
 use Rattle.fire_aim.proofs.aim_u.Statement.{statement}
 use Rattle.fire_aim.proofs.aim_u.Tie as tie
 
-son-requires : tie.Need-son-requires
-son-requires c κs = search needs
-
 take-requires : tie.Need-take-requires
 take-requires c κs = let p = c .before .before .pre in (p .0 .sized, rw (c .son .ensures) (p .1))
-
-enum-known-why : tie.Need-enum-known-why
-enum-known-why c = search needs
-
-enum-known-su : tie.Need-enum-known-su
-enum-known-su c = search needs
-
-has-third-requires : tie.Need-has-third-requires
-has-third-requires c κs = search needs
 
 aim-w-requires : tie.Need-aim-w-requires
 aim-w-requires c κs =
@@ -33,9 +21,6 @@ aim-w-requires c κs =
     let p = b8 .pre in
     let k = took _ _ _ _ _ _ (sym (b5 .take .ensures) ∙ b3 .su .given .1) in
     (p .0, k .first, rw (b6 .son .ensures) (p .1), fit-son (a .c) _ (other (a .r .side)) (k .fit))
-
-judge-requires : tie.Need-judge-requires
-judge-requires c κs = search needs
 
 returns : tie.Need-returns
 returns c =
@@ -70,5 +55,5 @@ returns-3 c =
 pub aim-u-spec : {M : Type 1} → statement M
 aim-u-spec =
     tie.close
-    (tie.spec son-requires take-requires enum-known-why enum-known-su has-third-requires aim-w-requires judge-requires
-    returns returns-2 returns-3)
+    (tie.spec (λ c κs. search needs) take-requires (λ c. search needs) (λ c. search needs) (λ c κs. search needs)
+    aim-w-requires (λ c κs. search needs) returns returns-2 returns-3)

@@ -13,12 +13,6 @@ link-at-requires c κs = let p = c .before .pre in (omega arith, link-lt _ _ _ (
 take-requires : tie.Need-take-requires
 take-requires c κs = let p = c .before .before .pre in (p .sized, rw (c .link-at .ensures) (p .holds))
 
-enum-known-why : tie.Need-enum-known-why
-enum-known-why c = search needs
-
-enum-known-sv : tie.Need-enum-known-sv
-enum-known-sv c = search needs
-
 aim-u-requires : tie.Need-aim-u-requires
 aim-u-requires c κs =
     let b3 = c .before .before .before in
@@ -44,4 +38,5 @@ returns-2 c =
 pub aim-v-spec : {M : Type 1} → statement M
 aim-v-spec =
     tie.close
-    (tie.spec link-at-requires take-requires enum-known-why enum-known-sv aim-u-requires returns returns-2)
+    (tie.spec link-at-requires take-requires (λ c. search needs) (λ c. search needs) aim-u-requires returns
+    returns-2)

@@ -6,23 +6,8 @@ use Rattle.scope.specs.Table.{son}
 use Rattle.fire_aim.proofs.aim_w.Statement.{statement}
 use Rattle.fire_aim.proofs.aim_w.Tie as tie
 
-other-requires : tie.Need-other-requires
-other-requires c κs = search needs
-
-son-requires : tie.Need-son-requires
-son-requires c κs = search needs
-
 take-requires : tie.Need-take-requires
 take-requires c κs = let p = c .before .before .before .pre in (p .0 .sized, simp (c .son .ensures, c .before .other .ensures) (p .3))
-
-enum-known-why : tie.Need-enum-known-why
-enum-known-why c = search needs
-
-enum-known-sw : tie.Need-enum-known-sw
-enum-known-sw c = search needs
-
-judge-requires : tie.Need-judge-requires
-judge-requires c κs = search needs
 
 returns : tie.Need-returns
 returns c =
@@ -50,4 +35,5 @@ returns-2 c =
 pub aim-w-spec : {M : Type 1} → statement M
 aim-w-spec =
     tie.close
-    (tie.spec other-requires son-requires take-requires enum-known-why enum-known-sw judge-requires returns returns-2)
+    (tie.spec (λ c κs. search needs) (λ c κs. search needs) take-requires (λ c. search needs) (λ c. search needs)
+    (λ c κs. search needs) returns returns-2)

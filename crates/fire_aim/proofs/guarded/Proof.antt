@@ -5,18 +5,6 @@ use Rattle.scope.specs.Rules.{guardAt}
 use Rattle.fire_aim.proofs.guarded.Statement.{statement}
 use Rattle.fire_aim.proofs.guarded.Tie as tie
 
-seen-requires : tie.Need-seen-requires
-seen-requires c κs = search needs
-
-seen-requires-2 : tie.Need-seen-requires-2
-seen-requires-2 c κs = search needs
-
-seen-requires-3 : tie.Need-seen-requires-3
-seen-requires-3 c κs = search needs
-
-guard-requires : tie.Need-guard-requires
-guard-requires c κs = search needs
-
 returns : tie.Need-returns
 unfolding guardAt
 returns c =
@@ -31,4 +19,5 @@ returns c =
 
 pub guarded-spec : {M : Type 1} → statement M
 guarded-spec =
-    tie.close (tie.spec seen-requires seen-requires-2 seen-requires-3 guard-requires returns)
+    tie.close
+    (tie.spec (λ c κs. search needs) (λ c κs. search needs) (λ c κs. search needs) (λ c κs. search needs) returns)

@@ -5,12 +5,6 @@ use Rattle.scope.specs.Fire.{judged}
 use Rattle.fire_aim.proofs.judge.Statement.{statement}
 use Rattle.fire_aim.proofs.judge.Tie as tie
 
-guarded-requires : tie.Need-guarded-requires
-guarded-requires c κs = search needs
-
-within-requires : tie.Need-within-requires
-within-requires c κs = search needs
-
 returns : tie.Need-returns
 unfolding judged
 returns c =
@@ -28,4 +22,4 @@ unfolding judged
 returns-3 c = simp (sym (c .before .guarded .ensures), c .if1 .left)
 
 pub judge-spec : {M : Type 1} → statement M
-judge-spec = tie.close (tie.spec guarded-requires within-requires returns returns-2 returns-3)
+judge-spec = tie.close (tie.spec (λ c κs. search needs) (λ c κs. search needs) returns returns-2 returns-3)

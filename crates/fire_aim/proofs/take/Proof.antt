@@ -10,12 +10,6 @@ returns : tie.Need-returns
 unfolding takeOf
 returns c = simp (eq-eqb _ _ (c .if1 .taken))
 
-slot-at-requires : tie.Need-slot-at-requires
-slot-at-requires c κs = search needs
-
-fit-requires : tie.Need-fit-requires
-fit-requires c κs = search needs
-
 returns-2 : tie.Need-returns-2
 unfolding takeOf
 returns-2 c =
@@ -39,4 +33,4 @@ returns-3 c =
     )
 
 pub take-spec : {M : Type 1} → statement M
-take-spec = tie.close (tie.spec returns slot-at-requires fit-requires returns-2 returns-3)
+take-spec = tie.close (tie.spec returns (λ c κs. search needs) (λ c κs. search needs) returns-2 returns-3)

@@ -6,26 +6,8 @@ use Rattle.scope.specs.Rules.{highestAt}
 use Rattle.fire_aim.proofs.within.Statement.{statement}
 use Rattle.fire_aim.proofs.within.Tie as tie
 
-seen-requires : tie.Need-seen-requires
-seen-requires c κs = search needs
-
-seen-requires-2 : tie.Need-seen-requires-2
-seen-requires-2 c κs = search needs
-
-seen-requires-3 : tie.Need-seen-requires-3
-seen-requires-3 c κs = search needs
-
-highest-requires : tie.Need-highest-requires
-highest-requires c κs = search needs
-
-of-requires : tie.Need-of-requires
-of-requires c κs = search needs
-
 enum-told : tie.Need-enum-told
 enum-told c = search needs
-
-enum-told-2 : tie.Need-enum-told-2
-enum-told-2 c = search needs
 
 returns : tie.Need-returns
 unfolding highestAt
@@ -50,5 +32,5 @@ returns-2 c =
 pub within-spec : {M : Type 1} → statement M
 within-spec =
     tie.close
-    (tie.spec seen-requires seen-requires-2 seen-requires-3 highest-requires of-requires enum-told enum-told-2 returns
-    returns-2)
+    (tie.spec (λ c κs. search needs) (λ c κs. search needs) (λ c κs. search needs) (λ c κs. search needs)
+    (λ c κs. search needs) enum-told (λ c. search needs) returns returns-2)

@@ -6,27 +6,6 @@ use Rattle.fire_guards.proofs.guard.Tie as tie
 enum-told : tie.Need-enum-told
 enum-told c = search needs
 
-reliable-requires : tie.Need-reliable-requires
-reliable-requires c κs = search needs
-
-enum-told-2 : tie.Need-enum-told-2
-enum-told-2 c = search needs
-
-turn-guard-requires : tie.Need-turn-guard-requires
-turn-guard-requires c κs = search needs
-
-enum-told-3 : tie.Need-enum-told-3
-enum-told-3 c = search needs
-
-turn-guard-requires-2 : tie.Need-turn-guard-requires-2
-turn-guard-requires-2 c κs = search needs
-
-enum-told-4 : tie.Need-enum-told-4
-enum-told-4 c = search needs
-
-double-guard-requires : tie.Need-double-guard-requires
-double-guard-requires c κs = search needs
-
 returns : tie.Need-returns
 returns c = simp (c .before .enum-told .given .1, c .reliable .ensures)
 
@@ -42,5 +21,5 @@ returns-4 c = simp (c .before .enum-told4 .given .1) (c .double-guard .ensures)
 pub guard-spec : {M : Type 1} → statement M
 guard-spec =
     tie.close
-    (tie.spec enum-told reliable-requires enum-told-2 turn-guard-requires enum-told-3 turn-guard-requires-2
-    enum-told-4 double-guard-requires returns returns-2 returns-3 returns-4)
+    (tie.spec enum-told (λ c κs. search needs) (λ c. search needs) (λ c κs. search needs) (λ c. search needs)
+    (λ c κs. search needs) (λ c. search needs) (λ c κs. search needs) returns returns-2 returns-3 returns-4)

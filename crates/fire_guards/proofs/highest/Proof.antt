@@ -6,33 +6,6 @@ use Rattle.fire_guards.proofs.highest.Tie as tie
 enum-told : tie.Need-enum-told
 enum-told c = search needs
 
-localh-requires : tie.Need-localh-requires
-localh-requires c κs = search needs
-
-enum-told-2 : tie.Need-enum-told-2
-enum-told-2 c = search needs
-
-over-requires : tie.Need-over-requires
-over-requires c κs = search needs
-
-enum-told-3 : tie.Need-enum-told-3
-enum-told-3 c = search needs
-
-over-requires-2 : tie.Need-over-requires-2
-over-requires-2 c κs = search needs
-
-enum-told-4 : tie.Need-enum-told-4
-enum-told-4 c = search needs
-
-over-requires-3 : tie.Need-over-requires-3
-over-requires-3 c κs = search needs
-
-over-requires-4 : tie.Need-over-requires-4
-over-requires-4 c κs = search needs
-
-larger-requires : tie.Need-larger-requires
-larger-requires c κs = search needs
-
 returns : tie.Need-returns
 returns c = simp (c .before .enum-told .given .1) (c .localh .ensures)
 
@@ -50,5 +23,6 @@ returns-4 c =
 pub highest-spec : {M : Type 1} → statement M
 highest-spec =
     tie.close
-    (tie.spec enum-told localh-requires enum-told-2 over-requires enum-told-3 over-requires-2 enum-told-4
-    over-requires-3 over-requires-4 larger-requires returns returns-2 returns-3 returns-4)
+    (tie.spec enum-told (λ c κs. search needs) (λ c. search needs) (λ c κs. search needs) (λ c. search needs)
+    (λ c κs. search needs) (λ c. search needs) (λ c κs. search needs) (λ c κs. search needs) (λ c κs. search needs)
+    returns returns-2 returns-3 returns-4)

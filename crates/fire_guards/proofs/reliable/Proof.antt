@@ -3,11 +3,8 @@ use borrow.Author.Needs.{needs}
 use Rattle.fire_guards.proofs.reliable.Statement.{statement}
 use Rattle.fire_guards.proofs.reliable.Tie as tie
 
-localh-requires : tie.Need-localh-requires
-localh-requires c κs = search needs
-
 returns : tie.Need-returns
 returns c = simp (c .localh .ensures)
 
 pub reliable-spec : {M : Type 1} → statement M
-reliable-spec = tie.close (tie.spec localh-requires returns)
+reliable-spec = tie.close (tie.spec (λ c κs. search needs) returns)

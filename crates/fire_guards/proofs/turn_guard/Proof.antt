@@ -4,15 +4,6 @@ use Rattle.fire_guards.proofs.Turning.{turn-guard}
 use Rattle.fire_guards.proofs.turn_guard.Statement.{statement}
 use Rattle.fire_guards.proofs.turn_guard.Tie as tie
 
-reliable-requires : tie.Need-reliable-requires
-reliable-requires c κs = search needs
-
-heavy-requires : tie.Need-heavy-requires
-heavy-requires c κs = search needs
-
-lean-requires : tie.Need-lean-requires
-lean-requires c κs = search needs
-
 returns : tie.Need-returns
 returns c =
     let b3 = c .before .before .before in
@@ -21,4 +12,6 @@ returns c =
     (turn-guard (a .even) (a .v) (a .u))
 
 pub turn-guard-spec : {M : Type 1} → statement M
-turn-guard-spec = tie.close (tie.spec reliable-requires heavy-requires lean-requires returns)
+turn-guard-spec =
+    tie.close
+    (tie.spec (λ c κs. search needs) (λ c κs. search needs) (λ c κs. search needs) returns)

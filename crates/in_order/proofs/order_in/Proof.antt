@@ -5,12 +5,6 @@ use Rattle.in_order.proofs.Walks.{none-listed, whole-room, all-listed}
 use Rattle.in_order.proofs.order_in.Statement.{statement}
 use Rattle.in_order.proofs.order_in.Tie as tie
 
-records-requires : tie.Need-records-requires
-records-requires c κs = search needs
-
-root-requires : tie.Need-root-requires
-root-requires c κs = search needs
-
 order-at-requires : tie.Need-order-at-requires
 order-at-requires c κs =
     let v = c .before .before in
@@ -25,9 +19,6 @@ returns c =
     let start = v .before .before .before .before in
     all-listed (start .pre .0) (v .root .ensures) (start .pre .1) (none-listed _ _ _ 0 (c .if1 .taken))
 
-same-length : tie.Need-same-length
-same-length c = search needs
-
 returns-2 : tie.Need-returns-2
 returns-2 c =
     let v = c .before .before .before .before .before in
@@ -38,4 +29,4 @@ returns-2 c =
 pub order-in-spec : {M : Type 1} → statement M
 order-in-spec =
     tie.close
-    (tie.spec records-requires root-requires order-at-requires returns same-length returns-2)
+    (tie.spec (λ c κs. search needs) (λ c κs. search needs) order-at-requires returns (λ c. search needs) returns-2)

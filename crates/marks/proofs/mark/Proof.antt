@@ -7,21 +7,6 @@ use Rattle.marks.proofs.Bits.{mask, marks}
 use Rattle.marks.proofs.mark.Statement.{statement}
 use Rattle.marks.proofs.mark.Tie as tie
 
-mul-w : tie.Need-mul-w
-mul-w c = search needs
-
-element-copy-out-w : tie.Need-element-copy-out-w
-element-copy-out-w c = search needs
-
-shl-m : tie.Need-shl-m
-shl-m c = search needs
-
-mul-m : tie.Need-mul-m
-mul-m c = search needs
-
-element-write-m : tie.Need-element-write-m
-element-write-m c = search needs
-
 returns : tie.Need-returns
 returns c =
     let at = c .before .args in
@@ -34,4 +19,7 @@ returns c =
     }
 
 pub mark-spec : {M : Type 1} → statement M
-mark-spec = tie.close (tie.spec mul-w element-copy-out-w shl-m mul-m element-write-m returns)
+mark-spec =
+    tie.close
+    (tie.spec (λ c. search needs) (λ c. search needs) (λ c. search needs) (λ c. search needs) (λ c. search needs)
+    returns)

@@ -6,21 +6,6 @@ use borrow.Author.Needs.{needs}
 use Rattle.marks.proofs.past.Statement.{statement}
 use Rattle.marks.proofs.past.Tie as tie
 
-mul-if1 : tie.Need-mul-if1
-mul-if1 c = search needs
-
-element-copy-out-if1 : tie.Need-element-copy-out-if1
-element-copy-out-if1 c = search needs
-
-mul-result : tie.Need-mul-result
-mul-result c = search needs
-
-add-result : tie.Need-add-result
-add-result c = search needs
-
-add-result-2 : tie.Need-add-result-2
-add-result-2 c = search needs
-
 returns : tie.Need-returns
 returns c =
     past-word (now (c .before .before .args .m)) (c .before .before .args .k) (c .before .before .args .whole) _ refl
@@ -34,4 +19,5 @@ returns-2 c =
 pub past-spec : {M : Type 1} → statement M
 past-spec =
     tie.close
-    (tie.spec mul-if1 element-copy-out-if1 mul-result add-result add-result-2 returns returns-2)
+    (tie.spec (λ c. search needs) (λ c. search needs) (λ c. search needs) (λ c. search needs) (λ c. search needs)
+    returns returns-2)

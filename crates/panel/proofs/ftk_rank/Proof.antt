@@ -4,14 +4,8 @@ use Rattle.panel.proofs.Given.{given}
 use Rattle.panel.proofs.ftk_rank.Statement.{statement}
 use Rattle.panel.proofs.ftk_rank.Tie as tie
 
-rank-requires : tie.Need-rank-requires
-rank-requires c κs = search needs
-
-five-requires : tie.Need-five-requires
-five-requires c κs = search needs
-
 returns : tie.Need-returns
 returns c = given (c .five .ensures) (c .before .rank .ensures)
 
 pub ftk-rank-spec : {M : Type 1} → statement M
-ftk-rank-spec = tie.close (tie.spec rank-requires five-requires returns)
+ftk-rank-spec = tie.close (tie.spec (λ c κs. search needs) (λ c κs. search needs) returns)

@@ -4,17 +4,8 @@ use Rattle.panel.proofs.Given.{given}
 use Rattle.panel.proofs.ftk_start.Statement.{statement}
 use Rattle.panel.proofs.ftk_start.Tie as tie
 
-start-requires : tie.Need-start-requires
-start-requires c κs = search needs
-
-five-requires : tie.Need-five-requires
-five-requires c κs = search needs
-
-same-length : tie.Need-same-length
-same-length c = search needs
-
 returns : tie.Need-returns
 returns c = given (c .five .ensures) (c .before .before .before .start .ensures)
 
 pub ftk-start-spec : {M : Type 1} → statement M
-ftk-start-spec = tie.close (tie.spec start-requires five-requires same-length returns)
+ftk-start-spec = tie.close (tie.spec (λ c κs. search needs) (λ c κs. search needs) (λ c. search needs) returns)

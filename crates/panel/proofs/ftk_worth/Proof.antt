@@ -4,14 +4,8 @@ use Rattle.panel.proofs.Given.{given}
 use Rattle.panel.proofs.ftk_worth.Statement.{statement}
 use Rattle.panel.proofs.ftk_worth.Tie as tie
 
-worth-requires : tie.Need-worth-requires
-worth-requires c κs = search needs
-
-five-requires : tie.Need-five-requires
-five-requires c κs = search needs
-
 returns : tie.Need-returns
 returns c = given (c .five .ensures) (c .before .worth .ensures)
 
 pub ftk-worth-spec : {M : Type 1} → statement M
-ftk-worth-spec = tie.close (tie.spec worth-requires five-requires returns)
+ftk-worth-spec = tie.close (tie.spec (λ c κs. search needs) (λ c κs. search needs) returns)

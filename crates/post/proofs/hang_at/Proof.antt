@@ -7,18 +7,6 @@ use Rattle.post.proofs.hang_at.Tie as tie
 returns : tie.Need-returns
 returns c = hang-none _ _ _ _ (c .if1 .taken)
 
-slot-at-requires : tie.Need-slot-at-requires
-slot-at-requires c κs = search needs
-
-blank-requires : tie.Need-blank-requires
-blank-requires c κs = search needs
-
-records-requires : tie.Need-records-requires
-records-requires c κs = search needs
-
-change-requires : tie.Need-change-requires
-change-requires c κs = search needs
-
 returns-2 : tie.Need-returns-2
 returns-2 c =
     let i = c .before .before in
@@ -43,4 +31,5 @@ returns-4 c =
 pub hang-at-spec : {M : Type 1} → statement M
 hang-at-spec =
     tie.close
-    (tie.spec returns slot-at-requires blank-requires records-requires change-requires returns-2 returns-3 returns-4)
+    (tie.spec returns (λ c κs. search needs) (λ c κs. search needs) (λ c κs. search needs) (λ c κs. search needs)
+    returns-2 returns-3 returns-4)

@@ -8,15 +8,6 @@ use Rattle.post.proofs.posting_at.Tie as tie
 enum-told : tie.Need-enum-told
 enum-told c = search needs
 
-enum-told-2 : tie.Need-enum-told-2
-enum-told-2 c = search needs
-
-enum-known-w : tie.Need-enum-known-w
-enum-known-w c = search needs
-
-free-slot-requires : tie.Need-free-slot-requires
-free-slot-requires c κs = search needs
-
 hang-at-requires : tie.Need-hang-at-requires
 hang-at-requires c κs =
     let s = c .before .before .before .before .before in
@@ -39,4 +30,5 @@ returns-3 c =
 pub posting-at-spec : {M : Type 1} → statement M
 posting-at-spec =
     tie.close
-    (tie.spec enum-told enum-told-2 enum-known-w free-slot-requires hang-at-requires returns returns-2 returns-3)
+    (tie.spec enum-told (λ c. search needs) (λ c. search needs) (λ c κs. search needs) hang-at-requires returns
+    returns-2 returns-3)

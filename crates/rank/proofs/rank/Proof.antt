@@ -9,21 +9,6 @@ use borrow.Author.Needs.{needs}
 use Rattle.rank.proofs.rank.Statement.{statement}
 use Rattle.rank.proofs.rank.Tie as tie
 
-enter-sound-requires : tie.Need-enter-sound-requires
-enter-sound-requires c κs = search needs
-
-enum-known-why : tie.Need-enum-known-why
-enum-known-why c = search needs
-
-refuse-requires : tie.Need-refuse-requires
-refuse-requires c κs = search needs
-
-enum-known-c : tie.Need-enum-known-c
-enum-known-c c = search needs
-
-wide-requires : tie.Need-wide-requires
-wide-requires c κs = search needs
-
 rank-in-requires : tie.Need-rank-in-requires
 rank-in-requires c κs =
     let r = c .before .before .before .before .before .before .args .r in
@@ -63,5 +48,5 @@ returns-2 c =
 pub rank-spec : {M : Type 1} → statement M
 rank-spec =
     tie.close
-    (tie.spec enter-sound-requires enum-known-why refuse-requires enum-known-c wide-requires rank-in-requires
-    ranked-requires returns returns-2)
+    (tie.spec (λ c κs. search needs) (λ c. search needs) (λ c κs. search needs) (λ c. search needs)
+    (λ c κs. search needs) rank-in-requires ranked-requires returns returns-2)

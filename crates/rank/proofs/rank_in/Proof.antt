@@ -10,14 +10,8 @@ use borrow.Author.Needs.{needs}
 use Rattle.rank.proofs.rank_in.Statement.{statement}
 use Rattle.rank.proofs.rank_in.Tie as tie
 
-records-requires : tie.Need-records-requires
-records-requires c κs = search needs
-
 returns : tie.Need-returns
 returns c = rank-over (c .before .before .before .pre .1) (c .before .records .ensures) (c .if1 .taken)
-
-root-requires : tie.Need-root-requires
-root-requires c κs = search needs
 
 add-wanted : tie.Need-add-wanted
 add-wanted c =
@@ -49,4 +43,5 @@ returns-2 c =
 pub rank-in-spec : {M : Type 1} → statement M
 rank-in-spec =
     tie.close
-    (tie.spec records-requires returns root-requires add-wanted rank-at-requires rank-said-requires returns-2)
+    (tie.spec (λ c κs. search needs) returns (λ c κs. search needs) add-wanted rank-at-requires rank-said-requires
+    returns-2)

@@ -5,9 +5,6 @@ use Rattle.rank.proofs.Seeking.{past-in, at-in}
 use Rattle.rank.proofs.rank_said.Statement.{statement}
 use Rattle.rank.proofs.rank_said.Tie as tie
 
-sub-t5 : tie.Need-sub-t5
-sub-t5 c = search needs
-
 returns : tie.Need-returns
 returns c = sym (at-in _ (c .if1 .taken))
 
@@ -15,4 +12,4 @@ returns-2 : tie.Need-returns-2
 returns-2 c = sym (past-in _ (c .if1 .left))
 
 pub rank-said-spec : {M : Type 1} → statement M
-rank-said-spec = tie.close (tie.spec sub-t5 returns returns-2)
+rank-said-spec = tie.close (tie.spec (λ c. search needs) returns returns-2)

@@ -6,15 +6,6 @@ use borrow.Author.Needs.{needs}
 use Rattle.sound.proofs.enter_sound.Statement.{statement}
 use Rattle.sound.proofs.enter_sound.Tie as tie
 
-enter-requires : tie.Need-enter-requires
-enter-requires c κs = search needs
-
-enum-known-why : tie.Need-enum-known-why
-enum-known-why c = search needs
-
-enum-known-c : tie.Need-enum-known-c
-enum-known-c c = search needs
-
 sound-requires : tie.Need-sound-requires
 sound-requires c κs = gate-ready _ _ _ (sym (c .before .before .before .enter .ensures) ∙ c .before .c .given .1) .sized
 
@@ -36,4 +27,5 @@ returns-3 c =
 pub enter-sound-spec : {M : Type 1} → statement M
 enter-sound-spec =
     tie.close
-    (tie.spec enter-requires enum-known-why enum-known-c sound-requires returns returns-2 returns-3)
+    (tie.spec (λ c κs. search needs) (λ c. search needs) (λ c. search needs) sound-requires returns returns-2
+    returns-3)

@@ -5,15 +5,6 @@ use Rattle.sound.specs.Scan.{settledAt}
 use Rattle.sound.proofs.settled.Statement.{statement}
 use Rattle.sound.proofs.settled.Tie as tie
 
-marked-requires : tie.Need-marked-requires
-marked-requires c κs = search needs
-
-slot-at-requires : tie.Need-slot-at-requires
-slot-at-requires c κs = search needs
-
-blank-requires : tie.Need-blank-requires
-blank-requires c κs = search needs
-
 returns : tie.Need-returns
 unfolding settledAt
 returns c = simp (sym (c .before .marked .ensures), c .if1 .taken)
@@ -29,4 +20,6 @@ returns-2 c =
     )
 
 pub settled-spec : {M : Type 1} → statement M
-settled-spec = tie.close (tie.spec marked-requires slot-at-requires blank-requires returns returns-2)
+settled-spec =
+    tie.close
+    (tie.spec (λ c κs. search needs) (λ c κs. search needs) (λ c κs. search needs) returns returns-2)

@@ -12,15 +12,6 @@ use Rattle.gate.proofs.header_ok.Reads as header-ok-reads
 use Rattle.words.proofs.records.Reads as records-reads
 use Rattle.words.proofs.root.Reads as root-reads
 
-header-ok-requires : tie.Need-header-ok-requires
-header-ok-requires c κs = search needs
-
-records-requires : tie.Need-records-requires
-records-requires c κs = search needs
-
-root-requires : tie.Need-root-requires
-root-requires c κs = search needs
-
 from-root-requires : tie.Need-from-root-requires
 from-root-requires c κs =
     let v = c .before .before .before in
@@ -32,9 +23,6 @@ from-root-requires c κs =
       looking = record { sized = start .pre; link = omega (arith, c .before .root .ensures); marks = refl };
       few = omega (arith, c .before .before .records .ensures, start .pre .most);
     }
-
-rest-blank-requires : tie.Need-rest-blank-requires
-rest-blank-requires c κs = search needs
 
 returns : tie.Need-returns
 returns c =
@@ -61,5 +49,5 @@ returns-3 c = sym (by-header _ _ (sym (c .before .header-ok .ensures) ∙ c .if1
 pub sound-spec : {M : Type 1} → statement M
 sound-spec =
     tie.close
-    (tie.spec header-ok-requires records-requires root-requires from-root-requires rest-blank-requires returns
-    returns-2 returns-3)
+    (tie.spec (λ c κs. search needs) (λ c κs. search needs) (λ c κs. search needs) from-root-requires
+    (λ c κs. search needs) returns returns-2 returns-3)

@@ -7,21 +7,6 @@ use borrow.Author.Needs.{needs}
 use Rattle.stand_input.proofs.read_at.Statement.{statement}
 use Rattle.stand_input.proofs.read_at.Tie as tie
 
-sub-read-once : tie.Need-sub-read-once
-sub-read-once c = search needs
-
-part-read-once-start : tie.Need-part-read-once-start
-part-read-once-start c = search needs
-
-part-read-once-end : tie.Need-part-read-once-end
-part-read-once-end c = search needs
-
-read-once-requires : tie.Need-read-once-requires
-read-once-requires c κs = search needs
-
-same-length : tie.Need-same-length
-same-length c = search needs
-
 returns : tie.Need-returns
 returns c =
     let a = c .before .before .before .before .before .args in
@@ -31,10 +16,5 @@ returns c =
 pub read-at-spec : {M : Type 1} → statement M
 read-at-spec =
     tie.close
-    (tie.spec
-    sub-read-once
-    part-read-once-start
-    part-read-once-end
-    read-once-requires
-    same-length
+    (tie.spec (λ c. search needs) (λ c. search needs) (λ c. search needs) (λ c κs. search needs) (λ c. search needs)
     returns)

@@ -42,15 +42,5 @@ returns-2 c = omega arith
 pub read-input-spec : {M : Type 1} → statement M
 read-input-spec =
     tie.close
-    (tie.spec
-    Inv-loop
-    μ-loop
-    loop-holds
-    read-at-requires
-    same-length
-    returns
-    add-n
-    loop-less
-    loop-again
-    same-length-2
+    (tie.spec Inv-loop μ-loop loop-holds read-at-requires same-length returns add-n loop-less loop-again same-length-2
     returns-2)

@@ -72,22 +72,5 @@ returns-2 c = (c .before .loop .inv .0 .so-far, λ h. omega (arith, h, c .loop-t
 pub fill-spec : {M : Type 1} → statement M
 fill-spec =
     tie.close
-    (tie.spec
-    Inv-loop
-    μ-loop
-    sub-last
-    loop-holds
-    same-length
-    same-length-2
-    returns
-    line-end-requires
-    sub-step
-    part-step-start
-    part-step-end
-    step-requires
-    add-next
-    loop-less
-    loop-again
-    same-length-3
-    same-length-4
-    returns-2)
+    (tie.spec Inv-loop μ-loop sub-last loop-holds same-length same-length-2 returns line-end-requires sub-step
+    part-step-start part-step-end step-requires add-next loop-less loop-again same-length-3 same-length-4 returns-2)

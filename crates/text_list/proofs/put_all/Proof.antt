@@ -66,16 +66,5 @@ returns c =
 pub put-all-spec : {M : Type 1} → statement M
 put-all-spec =
     tie.close
-    (tie.spec
-    Inv-loop
-    μ-loop
-    loop-holds
-    mul-k
-    shared-slice-read-k
-    slot-at-requires
-    put-record-requires
-    add-i
-    loop-less
-    loop-again
-    same-length
-    returns)
+    (tie.spec Inv-loop μ-loop loop-holds mul-k shared-slice-read-k slot-at-requires put-record-requires add-i
+    loop-less loop-again same-length returns)

@@ -8,28 +8,10 @@ use Rattle.text_list.proofs.Records.{wider}
 use Rattle.text_list.proofs.put_list.Statement.{statement}
 use Rattle.text_list.proofs.put_list.Tie as tie
 
-enter-sound-requires : tie.Need-enter-sound-requires
-enter-sound-requires c κs = search needs
-
-enum-known-why : tie.Need-enum-known-why
-enum-known-why c = search needs
-
-refuse-requires : tie.Need-refuse-requires
-refuse-requires c κs = search needs
-
-put-answer-requires : tie.Need-put-answer-requires
-put-answer-requires c κs = search needs
-
-enum-known-c : tie.Need-enum-known-c
-enum-known-c c = search needs
-
 put-listed-requires : tie.Need-put-listed-requires
 put-listed-requires c κs =
     let w = opened _ _ _ (c .before .before .before .before .enter-sound .ensures) (c .before .before .c .given .1) in
     (w, omega (arith, c .before .before .before .before .before .before .before .pre, w .sized .room))
-
-same-length : tie.Need-same-length
-same-length c = search needs
 
 returns : tie.Need-returns
 unfolding listText
@@ -37,9 +19,6 @@ returns c =
     let b = c .before .before .before .before .before .before in
     rw (sym (b .before .before .enter-sound .ensures), b .why .given .1)
     (wider (rw (c .before .before .before .refuse .ensures) at (c .before .before .put-answer .ensures)) (omega arith))
-
-same-length-2 : tie.Need-same-length-2
-same-length-2 c = search needs
 
 returns-2 : tie.Need-returns-2
 unfolding listText
@@ -52,14 +31,5 @@ returns-2 c =
 pub put-list-spec : {M : Type 1} → statement M
 put-list-spec =
     tie.close
-    (tie.spec
-    enter-sound-requires
-    enum-known-why
-    refuse-requires
-    put-answer-requires
-    enum-known-c
-    put-listed-requires
-    same-length
-    returns
-    same-length-2
-    returns-2)
+    (tie.spec (λ c κs. search needs) (λ c. search needs) (λ c κs. search needs) (λ c κs. search needs)
+    (λ c. search needs) put-listed-requires (λ c. search needs) returns (λ c. search needs) returns-2)

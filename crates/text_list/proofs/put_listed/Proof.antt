@@ -5,18 +5,6 @@ use Rattle.text_print.proofs.Laid.{both-put}
 use Rattle.text_list.proofs.put_listed.Statement.{statement}
 use Rattle.text_list.proofs.put_listed.Tie as tie
 
-answer-requires : tie.Need-answer-requires
-answer-requires c κs = search needs
-
-put-answer-requires : tie.Need-put-answer-requires
-put-answer-requires c κs = search needs
-
-put-records-requires : tie.Need-put-records-requires
-put-records-requires c κs = search needs
-
-same-length : tie.Need-same-length
-same-length c = search needs
-
 returns : tie.Need-returns
 unfolding listed
 returns c =
@@ -26,4 +14,4 @@ returns c =
 pub put-listed-spec : {M : Type 1} → statement M
 put-listed-spec =
     tie.close
-    (tie.spec answer-requires put-answer-requires put-records-requires same-length returns)
+    (tie.spec (λ c κs. search needs) (λ c κs. search needs) (λ c κs. search needs) (λ c. search needs) returns)

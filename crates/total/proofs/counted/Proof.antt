@@ -5,9 +5,6 @@ use borrow.Author.Tests.{le-leb, lt-leb}
 use Rattle.total.proofs.counted.Statement.{statement}
 use Rattle.total.proofs.counted.Tie as tie
 
-long-requires : tie.Need-long-requires
-long-requires c κs = search needs
-
 returns : tie.Need-returns
 returns c = simp (le-leb _ _ (c .before .if1 .taken), sym (c .long .ensures))
 
@@ -15,4 +12,4 @@ returns-2 : tie.Need-returns-2
 returns-2 c = simp (lt-leb _ _ (c .if1 .left))
 
 pub counted-spec : {M : Type 1} → statement M
-counted-spec = tie.close (tie.spec long-requires returns returns-2)
+counted-spec = tie.close (tie.spec (λ c κs. search needs) returns returns-2)

@@ -6,12 +6,6 @@ use borrow.Author.Needs.{needs}
 use Rattle.total.proofs.height_in.Statement.{statement}
 use Rattle.total.proofs.height_in.Tie as tie
 
-records-requires : tie.Need-records-requires
-records-requires c κs = search needs
-
-root-requires : tie.Need-root-requires
-root-requires c κs = search needs
-
 height-at-requires : tie.Need-height-at-requires
 height-at-requires c κs =
     let start = c .before .before .before .before in
@@ -30,4 +24,6 @@ returns-2 c =
     said (start .pre) (c .before .before .root .ensures) (trueHeight) (c .height-at .ensures)
 
 pub height-in-spec : {M : Type 1} → statement M
-height-in-spec = tie.close (tie.spec records-requires root-requires height-at-requires returns returns-2)
+height-in-spec =
+    tie.close
+    (tie.spec (λ c κs. search needs) (λ c κs. search needs) height-at-requires returns returns-2)

@@ -7,12 +7,6 @@ use borrow.Author.Needs.{needs}
 use Rattle.total.proofs.total_in.Statement.{statement}
 use Rattle.total.proofs.total_in.Tie as tie
 
-records-requires : tie.Need-records-requires
-records-requires c κs = search needs
-
-root-requires : tie.Need-root-requires
-root-requires c κs = search needs
-
 total-at-requires : tie.Need-total-at-requires
 total-at-requires c κs =
     let start = c .before .before .before .before in
@@ -34,4 +28,6 @@ returns-2 c =
     omega (arith, said (start .pre) (c .before .before .root .ensures) (totalOn 0 key) (c .total-at .ensures))
 
 pub total-in-spec : {M : Type 1} → statement M
-total-in-spec = tie.close (tie.spec records-requires root-requires total-at-requires returns returns-2)
+total-in-spec =
+    tie.close
+    (tie.spec (λ c κs. search needs) (λ c κs. search needs) total-at-requires returns returns-2)

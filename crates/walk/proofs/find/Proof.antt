@@ -6,18 +6,6 @@ use Rattle.scope.specs.Find.{findAnswer}
 use Rattle.walk.proofs.find.Statement.{statement}
 use Rattle.walk.proofs.find.Tie as tie
 
-enter-requires : tie.Need-enter-requires
-enter-requires c κs = search needs
-
-enum-known-why : tie.Need-enum-known-why
-enum-known-why c = search needs
-
-refuse-requires : tie.Need-refuse-requires
-refuse-requires c κs = search needs
-
-enum-known-c : tie.Need-enum-known-c
-enum-known-c c = search needs
-
 search-requires : tie.Need-search-requires
 search-requires c κs = gate-ready _ _ _ (sym (c .before .before .before .enter .ensures) ∙ c .before .c .given .1)
 
@@ -42,12 +30,5 @@ returns-2 c =
 pub find-spec : {M : Type 1} → statement M
 find-spec =
     tie.close
-    (tie.spec
-    enter-requires
-    enum-known-why
-    refuse-requires
-    enum-known-c
-    search-requires
-    found-requires
-    returns
-    returns-2)
+    (tie.spec (λ c κs. search needs) (λ c. search needs) (λ c κs. search needs) (λ c. search needs) search-requires
+    found-requires returns returns-2)

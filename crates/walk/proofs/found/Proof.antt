@@ -9,41 +9,11 @@ use Rattle.walk.proofs.found.Tie as tie
 enum-told : tie.Need-enum-told
 enum-told c = search needs
 
-refuse-requires : tie.Need-refuse-requires
-refuse-requires c κs = search needs
-
-enum-told-2 : tie.Need-enum-told-2
-enum-told-2 c = search needs
-
-refuse-requires-2 : tie.Need-refuse-requires-2
-refuse-requires-2 c κs = search needs
-
-enum-known-w : tie.Need-enum-known-w
-enum-known-w c = search needs
-
 slot-at-requires : tie.Need-slot-at-requires
 slot-at-requires c κs =
     let b = c .before in
     let i = rw (b .w .given .1) at (b .before .before .before .pre .1) in
     record { first = omega arith; whole = omega arith }
-
-change-requires : tie.Need-change-requires
-change-requires c κs = search needs
-
-long-requires : tie.Need-long-requires
-long-requires c κs = search needs
-
-long-requires-2 : tie.Need-long-requires-2
-long-requires-2 c κs = search needs
-
-size-requires : tie.Need-size-requires
-size-requires c κs = search needs
-
-long-requires-3 : tie.Need-long-requires-3
-long-requires-3 c κs = search needs
-
-accept-requires : tie.Need-accept-requires
-accept-requires c κs = search needs
 
 returns : tie.Need-returns
 unfolding foundIn
@@ -71,19 +41,6 @@ returns-3 c =
 pub found-spec : {M : Type 1} → statement M
 found-spec =
     tie.close
-    (tie.spec
-    enum-told
-    refuse-requires
-    enum-told-2
-    refuse-requires-2
-    enum-known-w
-    slot-at-requires
-    change-requires
-    long-requires
-    long-requires-2
-    size-requires
-    long-requires-3
-    accept-requires
-    returns
-    returns-2
-    returns-3)
+    (tie.spec enum-told (λ c κs. search needs) (λ c. search needs) (λ c κs. search needs) (λ c. search needs)
+    slot-at-requires (λ c κs. search needs) (λ c κs. search needs) (λ c κs. search needs) (λ c κs. search needs)
+    (λ c κs. search needs) (λ c κs. search needs) returns returns-2 returns-3)

@@ -6,9 +6,6 @@ use borrow.Author.Needs.{needs}
 use Rattle.worth.proofs.carry.Statement.{statement}
 use Rattle.worth.proofs.carry.Tie as tie
 
-sub-result : tie.Need-sub-result
-sub-result c = search needs
-
 mul-result : tie.Need-mul-result
 mul-result c =
     let at = c .before .args in
@@ -36,4 +33,4 @@ returns-2 c =
     omega (arith, c .before .pre, no-product (at .out) (at .high) (at .above) (c .if1 .left))
 
 pub carry-spec : {M : Type 1} → statement M
-carry-spec = tie.close (tie.spec sub-result mul-result returns returns-2)
+carry-spec = tie.close (tie.spec (λ c. search needs) mul-result returns returns-2)

@@ -10,12 +10,6 @@ use borrow.Author.Needs.{needs}
 use Rattle.worth.proofs.top.Statement.{statement}
 use Rattle.worth.proofs.top.Tie as tie
 
-slot-at-requires : tie.Need-slot-at-requires
-slot-at-requires c κs = search needs
-
-localh-requires : tie.Need-localh-requires
-localh-requires c κs = search needs
-
 returns : tie.Need-returns
 unfolding topOf
 returns c = (says-leaf _ _ topOf (c .if1 .taken), omega arith)
@@ -26,4 +20,4 @@ returns-2 c =
     (c .localh .ensures ∙ ap (λ (s : Slot). over (s .lefth) (s .righth)) (c .before .slot-at .ensures))
 
 pub top-spec : {M : Type 1} → statement M
-top-spec = tie.close (tie.spec slot-at-requires localh-requires returns returns-2)
+top-spec = tie.close (tie.spec (λ c κs. search needs) (λ c κs. search needs) returns returns-2)

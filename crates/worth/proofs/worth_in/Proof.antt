@@ -8,15 +8,6 @@ use borrow.Author.Needs.{needs}
 use Rattle.worth.proofs.worth_in.Statement.{statement}
 use Rattle.worth.proofs.worth_in.Tie as tie
 
-records-requires : tie.Need-records-requires
-records-requires c κs = search needs
-
-root-requires : tie.Need-root-requires
-root-requires c κs = search needs
-
-size-requires : tie.Need-size-requires
-size-requires c κs = search needs
-
 top-requires : tie.Need-top-requires
 top-requires c κs =
     let v = c .before .before in
@@ -50,4 +41,5 @@ returns-2 c =
 pub worth-in-spec : {M : Type 1} → statement M
 worth-in-spec =
     tie.close
-    (tie.spec records-requires root-requires size-requires top-requires weigh-at-requires returns returns-2)
+    (tie.spec (λ c κs. search needs) (λ c κs. search needs) (λ c κs. search needs) top-requires weigh-at-requires
+    returns returns-2)

@@ -11,26 +11,14 @@ enum-told c = search needs
 propagate-requires : tie.Need-propagate-requires
 propagate-requires c κs = let p = c .before .before .before .before .pre in asked (p .0) (p .1) Propagate (c .before .enum-told .given .1)
 
-enum-told-2 : tie.Need-enum-told-2
-enum-told-2 c = search needs
-
 rotate-requires : tie.Need-rotate-requires
 rotate-requires c κs = let p = c .before .before .before .before .pre in asked (p .0) (p .1) Lean (c .before .enum-told2 .given .1)
-
-enum-told-3 : tie.Need-enum-told-3
-enum-told-3 c = search needs
 
 rotate-requires-2 : tie.Need-rotate-requires-2
 rotate-requires-2 c κs = let p = c .before .before .before .before .pre in asked (p .0) (p .1) Even (c .before .enum-told3 .given .1)
 
-enum-told-4 : tie.Need-enum-told-4
-enum-told-4 c = search needs
-
 rotate-twice-requires : tie.Need-rotate-twice-requires
 rotate-twice-requires c κs = let p = c .before .before .before .before .pre in asked (p .0) (p .1) Double (c .before .enum-told4 .given .1)
-
-same-length : tie.Need-same-length
-same-length c = search needs
 
 returns : tie.Need-returns
 returns c =
@@ -39,9 +27,6 @@ returns c =
     let p = b7 .pre in
     acted (p .0) (p .1) Propagate (b4 .enum-told .given .1) (c .before .before .propagate .ensures)
 
-same-length-2 : tie.Need-same-length-2
-same-length-2 c = search needs
-
 returns-2 : tie.Need-returns-2
 returns-2 c =
     let b4 = c .before .before .before .before in
@@ -49,18 +34,12 @@ returns-2 c =
     let p = b7 .pre in
     acted (p .0) (p .1) Lean (b4 .enum-told2 .given .1) (c .before .before .rotate .ensures)
 
-same-length-3 : tie.Need-same-length-3
-same-length-3 c = search needs
-
 returns-3 : tie.Need-returns-3
 returns-3 c =
     let b4 = c .before .before .before .before in
     let b7 = b4 .before .before .before in
     let p = b7 .pre in
     acted (p .0) (p .1) Even (b4 .enum-told3 .given .1) (c .before .before .rotate2 .ensures)
-
-same-length-4 : tie.Need-same-length-4
-same-length-4 c = search needs
 
 returns-4 : tie.Need-returns-4
 returns-4 c =
@@ -72,5 +51,6 @@ returns-4 c =
 pub act-spec : {M : Type 1} → statement M
 act-spec =
     tie.close
-    (tie.spec enum-told propagate-requires enum-told-2 rotate-requires enum-told-3 rotate-requires-2 enum-told-4
-    rotate-twice-requires same-length returns same-length-2 returns-2 same-length-3 returns-3 same-length-4 returns-4)
+    (tie.spec enum-told propagate-requires (λ c. search needs) rotate-requires (λ c. search needs) rotate-requires-2
+    (λ c. search needs) rotate-twice-requires (λ c. search needs) returns (λ c. search needs) returns-2
+    (λ c. search needs) returns-3 (λ c. search needs) returns-4)

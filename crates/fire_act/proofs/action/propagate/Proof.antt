@@ -5,21 +5,12 @@ use Rattle.fire_act.proofs.Actions.{propagate-written}
 use Rattle.fire_act.proofs.action.propagate.Statement.{statement}
 use Rattle.fire_act.proofs.action.propagate.Tie as tie
 
-seen-requires : tie.Need-seen-requires
-seen-requires c κs = search needs
-
-localh-requires : tie.Need-localh-requires
-localh-requires c κs = search needs
-
 put-height-requires : tie.Need-put-height-requires
 put-height-requires c κs = let p = c .before .before .before .before .pre in (
   record { sized = p .0 .sized; first = p .0 .nodes .v-first; most = p .0 .nodes .v-most },
   simp
       (c .localh .ensures, c .before .seen .ensures) (p .1),
 )
-
-same-length : tie.Need-same-length
-same-length c = search needs
 
 returns : tie.Need-returns
 returns c =
@@ -33,4 +24,4 @@ returns c =
 pub propagate-spec : {M : Type 1} → statement M
 propagate-spec =
     tie.close
-    (tie.spec seen-requires localh-requires put-height-requires same-length returns)
+    (tie.spec (λ c κs. search needs) (λ c κs. search needs) put-height-requires (λ c. search needs) returns)

@@ -5,15 +5,6 @@ use Rattle.fire_act.proofs.Actions.{rotate-written}
 use Rattle.fire_act.proofs.action.rotate.Statement.{statement}
 use Rattle.fire_act.proofs.action.rotate.Tie as tie
 
-rotate-links-requires : tie.Need-rotate-links-requires
-rotate-links-requires c κs = search needs
-
-rotate-heights-requires : tie.Need-rotate-heights-requires
-rotate-heights-requires c κs = search needs
-
-same-length : tie.Need-same-length
-same-length c = search needs
-
 returns : tie.Need-returns
 returns c =
     let b6 = c .before .before .before .before .before .before in
@@ -23,5 +14,4 @@ returns c =
     (c .before .before .rotate-heights .ensures)
 
 pub rotate-spec : {M : Type 1} → statement M
-rotate-spec =
-    tie.close (tie.spec rotate-links-requires rotate-heights-requires same-length returns)
+rotate-spec = tie.close (tie.spec (λ c κs. search needs) (λ c κs. search needs) (λ c. search needs) returns)

@@ -5,25 +5,10 @@ use Rattle.fire_act.proofs.Actions.{heights-written}
 use Rattle.fire_act.proofs.action.rotate_heights.Statement.{statement}
 use Rattle.fire_act.proofs.action.rotate_heights.Tie as tie
 
-other-requires : tie.Need-other-requires
-other-requires c κs = search needs
-
-seen-requires : tie.Need-seen-requires
-seen-requires c κs = search needs
-
-seen-requires-2 : tie.Need-seen-requires-2
-seen-requires-2 c κs = search needs
-
-put-register-requires : tie.Need-put-register-requires
-put-register-requires c κs = search needs
-
-over-requires : tie.Need-over-requires
-over-requires c κs = search needs
-
 put-height-requires : tie.Need-put-height-requires
 put-height-requires c κs = let p = c .before .before .before .before .before .before .before .before .before .before .pre in (
   record {
-    sized = c .before .before .before .before .put-register .ensures .sized;
+    sized = c .before .before .before .before .copy-register .ensures .sized;
     first = p .0 .nodes .u-first;
     most = p .0 .nodes .u-most;
   },
@@ -33,9 +18,6 @@ put-height-requires c κs = let p = c .before .before .before .before .before .b
     c .before .before .before .before .before .before .before .seen .ensures,
   ) (p .1),
 )
-
-same-length : tie.Need-same-length
-same-length c = search needs
 
 returns : tie.Need-returns
 returns c =
@@ -47,10 +29,10 @@ returns c =
     let b13 = b11 .before .before in
     let a = b13 .args in
     heights-written (now (a .t)) (a .c) (a .n) (a .near) (b11 .other .ensures) (b10 .seen .ensures)
-    (b9 .seen2 .ensures) (b3 .over .ensures) (b7 .put-register .ensures) (c .before .before .put-height .ensures)
+    (b9 .seen2 .ensures) (b3 .over .ensures) (b7 .copy-register .ensures) (c .before .before .put-height .ensures)
 
 pub rotate-heights-spec : {M : Type 1} → statement M
 rotate-heights-spec =
     tie.close
-    (tie.spec other-requires seen-requires seen-requires-2 put-register-requires over-requires put-height-requires
-    same-length returns)
+    (tie.spec (λ c κs. search needs) (λ c κs. search needs) (λ c κs. search needs) (λ c κs. search needs)
+    (λ c κs. search needs) put-height-requires (λ c. search needs) returns)

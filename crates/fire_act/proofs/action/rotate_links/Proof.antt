@@ -5,24 +5,6 @@ use Rattle.fire_act.proofs.Actions.{links-written}
 use Rattle.fire_act.proofs.action.rotate_links.Statement.{statement}
 use Rattle.fire_act.proofs.action.rotate_links.Tie as tie
 
-other-requires : tie.Need-other-requires
-other-requires c κs = search needs
-
-put-top-requires : tie.Need-put-top-requires
-put-top-requires c κs = search needs
-
-put-son-requires : tie.Need-put-son-requires
-put-son-requires c κs = search needs
-
-son-word-requires : tie.Need-son-word-requires
-son-word-requires c κs = search needs
-
-put-branch-requires : tie.Need-put-branch-requires
-put-branch-requires c κs = search needs
-
-same-length : tie.Need-same-length
-same-length c = search needs
-
 returns : tie.Need-returns
 returns c =
     let b3 = c .before .before .before in
@@ -37,5 +19,5 @@ returns c =
 pub rotate-links-spec : {M : Type 1} → statement M
 rotate-links-spec =
     tie.close
-    (tie.spec other-requires put-top-requires put-son-requires son-word-requires put-branch-requires same-length
-    returns)
+    (tie.spec (λ c κs. search needs) (λ c κs. search needs) (λ c κs. search needs) (λ c κs. search needs)
+    (λ c κs. search needs) (λ c. search needs) returns)

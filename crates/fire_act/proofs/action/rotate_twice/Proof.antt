@@ -5,21 +5,6 @@ use Rattle.fire_act.proofs.Actions.{all-written}
 use Rattle.fire_act.proofs.action.rotate_twice.Statement.{statement}
 use Rattle.fire_act.proofs.action.rotate_twice.Tie as tie
 
-twice-top-requires : tie.Need-twice-top-requires
-twice-top-requires c κs = search needs
-
-twice-sons-requires : tie.Need-twice-sons-requires
-twice-sons-requires c κs = search needs
-
-twice-copied-requires : tie.Need-twice-copied-requires
-twice-copied-requires c κs = search needs
-
-twice-heights-requires : tie.Need-twice-heights-requires
-twice-heights-requires c κs = search needs
-
-same-length : tie.Need-same-length
-same-length c = search needs
-
 returns : tie.Need-returns
 returns c =
     let b6 = c .before .before .before .before .before .before in
@@ -33,4 +18,5 @@ returns c =
 pub rotate-twice-spec : {M : Type 1} → statement M
 rotate-twice-spec =
     tie.close
-    (tie.spec twice-top-requires twice-sons-requires twice-copied-requires twice-heights-requires same-length returns)
+    (tie.spec (λ c κs. search needs) (λ c κs. search needs) (λ c κs. search needs) (λ c κs. search needs)
+    (λ c. search needs) returns)

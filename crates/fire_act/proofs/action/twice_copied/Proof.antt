@@ -5,21 +5,6 @@ use Rattle.fire_act.proofs.Actions.{copied-written}
 use Rattle.fire_act.proofs.action.twice_copied.Statement.{statement}
 use Rattle.fire_act.proofs.action.twice_copied.Tie as tie
 
-seen-requires : tie.Need-seen-requires
-seen-requires c κs = search needs
-
-other-requires : tie.Need-other-requires
-other-requires c κs = search needs
-
-put-register-requires : tie.Need-put-register-requires
-put-register-requires c κs = search needs
-
-put-register-requires-2 : tie.Need-put-register-requires-2
-put-register-requires-2 c κs = search needs
-
-same-length : tie.Need-same-length
-same-length c = search needs
-
 returns : tie.Need-returns
 returns c =
     let b6 = c .before .before .before .before .before .before in
@@ -28,9 +13,10 @@ returns c =
     let b11 = b9 .before .before in
     let a = b11 .args in
     copied-written (now (a .t)) (a .c) (a .n) (a .near) (b7 .other .ensures) (b9 .seen .ensures)
-    (b6 .put-register .ensures) (c .before .before .put-register2 .ensures)
+    (b6 .copy-register .ensures) (c .before .before .put-register2 .ensures)
 
 pub twice-copied-spec : {M : Type 1} → statement M
 twice-copied-spec =
     tie.close
-    (tie.spec seen-requires other-requires put-register-requires put-register-requires-2 same-length returns)
+    (tie.spec (λ c κs. search needs) (λ c κs. search needs) (λ c κs. search needs) (λ c κs. search needs)
+    (λ c. search needs) returns)

@@ -6,29 +6,11 @@ use Rattle.fire_act.proofs.Actions.{twice-written}
 use Rattle.fire_act.proofs.action.twice_heights.Statement.{statement}
 use Rattle.fire_act.proofs.action.twice_heights.Tie as tie
 
-seen-requires : tie.Need-seen-requires
-seen-requires c κs = search needs
-
-seen-requires-2 : tie.Need-seen-requires-2
-seen-requires-2 c κs = search needs
-
-seen-requires-3 : tie.Need-seen-requires-3
-seen-requires-3 c κs = search needs
-
-over-requires : tie.Need-over-requires
-over-requires c κs = search needs
-
 put-height-requires : tie.Need-put-height-requires
 put-height-requires c κs = let p = c .before .before .before .before .before .before .pre in (
   record { sized = p .0 .sized; first = p .0 .nodes .w-first; most = p .0 .nodes .w-most },
   simp (c .over .ensures, c .before .before .seen3 .ensures, c .before .before .before .seen2 .ensures) (omega (arith, p .1)),
 )
-
-other-requires : tie.Need-other-requires
-other-requires c κs = search needs
-
-over-requires-2 : tie.Need-over-requires-2
-over-requires-2 c κs = search needs
 
 put-height-requires-2 : tie.Need-put-height-requires-2
 put-height-requires-2 c
@@ -45,9 +27,6 @@ put-height-requires-2 c
       )
           (omega (arith, p .1)),
     )
-
-same-length : tie.Need-same-length
-same-length c = search needs
 
 returns : tie.Need-returns
 returns c =
@@ -67,5 +46,6 @@ returns c =
 pub twice-heights-spec : {M : Type 1} → statement M
 twice-heights-spec =
     tie.close
-    (tie.spec seen-requires seen-requires-2 seen-requires-3 over-requires put-height-requires other-requires
-    over-requires-2 put-height-requires-2 same-length returns)
+    (tie.spec (λ c κs. search needs) (λ c κs. search needs) (λ c κs. search needs) (λ c κs. search needs)
+    put-height-requires (λ c κs. search needs) (λ c κs. search needs) put-height-requires-2 (λ c. search needs)
+    returns)

@@ -5,24 +5,6 @@ use Rattle.fire_act.proofs.Actions.{sons-written}
 use Rattle.fire_act.proofs.action.twice_sons.Statement.{statement}
 use Rattle.fire_act.proofs.action.twice_sons.Tie as tie
 
-other-requires : tie.Need-other-requires
-other-requires c κs = search needs
-
-son-word-requires : tie.Need-son-word-requires
-son-word-requires c κs = search needs
-
-put-branch-requires : tie.Need-put-branch-requires
-put-branch-requires c κs = search needs
-
-son-word-requires-2 : tie.Need-son-word-requires-2
-son-word-requires-2 c κs = search needs
-
-put-branch-requires-2 : tie.Need-put-branch-requires-2
-put-branch-requires-2 c κs = search needs
-
-same-length : tie.Need-same-length
-same-length c = search needs
-
 returns : tie.Need-returns
 returns c =
     let b3 = c .before .before .before in
@@ -37,5 +19,5 @@ returns c =
 pub twice-sons-spec : {M : Type 1} → statement M
 twice-sons-spec =
     tie.close
-    (tie.spec other-requires son-word-requires put-branch-requires son-word-requires-2 put-branch-requires-2
-    same-length returns)
+    (tie.spec (λ c κs. search needs) (λ c κs. search needs) (λ c κs. search needs) (λ c κs. search needs)
+    (λ c κs. search needs) (λ c. search needs) returns)

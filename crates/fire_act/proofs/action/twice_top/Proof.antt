@@ -5,21 +5,6 @@ use Rattle.fire_act.proofs.Actions.{top-written}
 use Rattle.fire_act.proofs.action.twice_top.Statement.{statement}
 use Rattle.fire_act.proofs.action.twice_top.Tie as tie
 
-put-top-requires : tie.Need-put-top-requires
-put-top-requires c κs = search needs
-
-put-son-requires : tie.Need-put-son-requires
-put-son-requires c κs = search needs
-
-other-requires : tie.Need-other-requires
-other-requires c κs = search needs
-
-put-son-requires-2 : tie.Need-put-son-requires-2
-put-son-requires-2 c κs = search needs
-
-same-length : tie.Need-same-length
-same-length c = search needs
-
 returns : tie.Need-returns
 returns c =
     let b3 = c .before .before .before in
@@ -33,4 +18,5 @@ returns c =
 pub twice-top-spec : {M : Type 1} → statement M
 twice-top-spec =
     tie.close
-    (tie.spec put-top-requires put-son-requires other-requires put-son-requires-2 same-length returns)
+    (tie.spec (λ c κs. search needs) (λ c κs. search needs) (λ c κs. search needs) (λ c κs. search needs)
+    (λ c. search needs) returns)

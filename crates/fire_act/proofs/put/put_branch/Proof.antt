@@ -11,9 +11,6 @@ use Rattle.fire_act.proofs.put.put_branch.Tie as tie
 put-link-word-requires : tie.Need-put-link-word-requires
 put-link-word-requires c κs = let p = c .before .before .pre in (omega arith, link-lt _ _ _ (p .sized) (p .most))
 
-same-length : tie.Need-same-length
-same-length c = search needs
-
 returns : tie.Need-returns
 unfolding linkAt
 returns c = let a = c .before .before .before .before .before .args in
@@ -21,4 +18,4 @@ returns c = let a = c .before .before .before .before .before .args in
     kept-set (now (a .t)) (a .c) _ (a .branch) (p .sized) (c .before .before .put-link-word .ensures)
 
 pub put-branch-spec : {M : Type 1} → statement M
-put-branch-spec = tie.close (tie.spec put-link-word-requires same-length returns)
+put-branch-spec = tie.close (tie.spec put-link-word-requires (λ c. search needs) returns)

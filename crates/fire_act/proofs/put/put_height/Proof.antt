@@ -7,16 +7,10 @@ use Rattle.spelling.proofs.Laws.{register-lt}
 use Rattle.fire_act.proofs.put.put_height.Statement.{statement}
 use Rattle.fire_act.proofs.put.put_height.Tie as tie
 
-cast-put-register : tie.Need-cast-put-register
-cast-put-register c = search needs
-
 put-register-requires : tie.Need-put-register-requires
 put-register-requires c κs =
     let p = c .before .before .pre .0 in
     (p .first, omega arith, register-lt _ _ _ (c .before .before .args .side) (p .sized) (p .first) (p .most))
-
-same-length : tie.Need-same-length
-same-length c = search needs
 
 returns : tie.Need-returns
 returns c = let a = c .before .before .before .before .before .args in
@@ -25,4 +19,4 @@ returns c = let a = c .before .before .before .before .before .args in
     (kept-set (now (a .t)) (a .c) _ (a .height) (p .sized) (c .before .before .put-register .ensures))
 
 pub put-height-spec : {M : Type 1} → statement M
-put-height-spec = tie.close (tie.spec cast-put-register put-register-requires same-length returns)
+put-height-spec = tie.close (tie.spec (λ c. search needs) put-register-requires (λ c. search needs) returns)

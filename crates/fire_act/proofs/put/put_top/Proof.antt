@@ -11,9 +11,6 @@ use Rattle.fire_act.proofs.put.put_top.Tie as tie
 put-link-requires : tie.Need-put-link-requires
 put-link-requires c κs = let p = c .before .before .pre in (omega arith, link-lt _ _ _ (p .0) (p .1), omega arith)
 
-same-length : tie.Need-same-length
-same-length c = search needs
-
 returns : tie.Need-returns
 unfolding linkAt
 returns c = let a = c .before .before .before .before .before .args in
@@ -21,4 +18,4 @@ returns c = let a = c .before .before .before .before .before .args in
     kept-set (now (a .t)) (a .c) _ (a .k) (p .0) (c .before .before .put-link .ensures)
 
 pub put-top-spec : {M : Type 1} → statement M
-put-top-spec = tie.close (tie.spec put-link-requires same-length returns)
+put-top-spec = tie.close (tie.spec put-link-requires (λ c. search needs) returns)

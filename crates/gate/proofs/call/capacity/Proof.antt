@@ -6,9 +6,6 @@ use Rattle.scope.specs.Table.{slotsIn}
 use Rattle.gate.proofs.call.capacity.Statement.{statement}
 use Rattle.gate.proofs.call.capacity.Tie as tie
 
-of-requires : tie.Need-of-requires
-of-requires c κs = search needs
-
 returns : tie.Need-returns
 unfolding slotsIn
 returns c = simp (eq-eqb _ _ (c .before .if1 .taken), sym (c .of .ensures))
@@ -18,4 +15,4 @@ unfolding slotsIn
 returns-2 c = simp (ne-eqb _ _ (c .if1 .left))
 
 pub capacity-spec : {M : Type 1} → statement M
-capacity-spec = tie.close (tie.spec of-requires returns returns-2)
+capacity-spec = tie.close (tie.spec (λ c κs. search needs) returns returns-2)

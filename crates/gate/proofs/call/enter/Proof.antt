@@ -8,14 +8,8 @@ use Rattle.scope.specs.Answers.{gate}
 use Rattle.gate.proofs.call.enter.Statement.{statement}
 use Rattle.gate.proofs.call.enter.Tie as tie
 
-capacity-requires : tie.Need-capacity-requires
-capacity-requires c κs = search needs
-
 enum-told : tie.Need-enum-told
 enum-told c = search needs
-
-enum-known-s : tie.Need-enum-known-s
-enum-known-s c = search needs
 
 header-ok-requires : tie.Need-header-ok-requires
 header-ok-requires c κs =
@@ -63,4 +57,5 @@ returns-4 c = simp (sym (c .before .before .before .before .capacity .ensures), 
 pub enter-spec : {M : Type 1} → statement M
 enter-spec =
     tie.close
-    (tie.spec capacity-requires enum-told enum-known-s header-ok-requires returns returns-2 returns-3 returns-4)
+    (tie.spec (λ c κs. search needs) enum-told (λ c. search needs) header-ok-requires returns returns-2 returns-3
+    returns-4)

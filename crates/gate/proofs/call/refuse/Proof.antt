@@ -4,11 +4,8 @@ use borrow.Author.Needs.{needs}
 use Rattle.gate.proofs.call.refuse.Statement.{statement}
 use Rattle.gate.proofs.call.refuse.Tie as tie
 
-code-requires : tie.Need-code-requires
-code-requires c κs = search needs
-
 returns : tie.Need-returns
 returns c = simp (sym (c .code .ensures))
 
 pub refuse-spec : {M : Type 1} → statement M
-refuse-spec = tie.close (tie.spec code-requires returns)
+refuse-spec = tie.close (tie.spec (λ c κs. search needs) returns)

@@ -4,9 +4,6 @@ use borrow.Author.Tests.{eq-eqb, ne-eqb}
 use Rattle.gate.proofs.tests.burden.Statement.{statement}
 use Rattle.gate.proofs.tests.burden.Tie as tie
 
-cast-result : tie.Need-cast-result
-cast-result c = search needs
-
 returns : tie.Need-returns
 returns c = simp (eq-eqb _ _ (c .if1 .taken))
 
@@ -14,4 +11,4 @@ returns-2 : tie.Need-returns-2
 returns-2 c = simp (ne-eqb _ _ (c .if1 .left))
 
 pub burden-spec : {M : Type 1} → statement M
-burden-spec = tie.close (tie.spec cast-result returns returns-2)
+burden-spec = tie.close (tie.spec (λ c. search needs) returns returns-2)

@@ -4,15 +4,6 @@ use borrow.Author.Needs.{needs}
 use Rattle.gate.proofs.tests.contents_ok.Statement.{statement}
 use Rattle.gate.proofs.tests.contents_ok.Tie as tie
 
-registers-ok-requires : tie.Need-registers-ok-requires
-registers-ok-requires c κs = search needs
-
-pieces-ok-requires : tie.Need-pieces-ok-requires
-pieces-ok-requires c κs = search needs
-
-ends-ok-requires : tie.Need-ends-ok-requires
-ends-ok-requires c κs = search needs
-
 returns : tie.Need-returns
 returns c =
     let b3 = c .before .before .before in
@@ -59,4 +50,5 @@ returns-4 c = simp (sym (c .before .registers-ok .ensures), c .if1 .left)
 pub contents-ok-spec : {M : Type 1} → statement M
 contents-ok-spec =
     tie.close
-    (tie.spec registers-ok-requires pieces-ok-requires ends-ok-requires returns returns-2 returns-3 returns-4)
+    (tie.spec (λ c κs. search needs) (λ c κs. search needs) (λ c κs. search needs) returns returns-2 returns-3
+    returns-4)

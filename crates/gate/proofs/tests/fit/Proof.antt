@@ -5,12 +5,6 @@ use borrow.Author.Needs.{needs}
 use Rattle.gate.proofs.tests.fit.Statement.{statement}
 use Rattle.gate.proofs.tests.fit.Tie as tie
 
-contents-ok-requires : tie.Need-contents-ok-requires
-contents-ok-requires c κs = search needs
-
-links-ok-requires : tie.Need-links-ok-requires
-links-ok-requires c κs = search needs
-
 returns : tie.Need-returns
 returns c =
     let b3 = c .before .before .before in
@@ -29,4 +23,4 @@ returns-2 c =
     rw (sym (fit-together (a .c) (a .s)), sym (c .before .contents-ok .ensures), c .if1 .left) refl
 
 pub fit-spec : {M : Type 1} → statement M
-fit-spec = tie.close (tie.spec contents-ok-requires links-ok-requires returns returns-2)
+fit-spec = tie.close (tie.spec (λ c κs. search needs) (λ c κs. search needs) returns returns-2)

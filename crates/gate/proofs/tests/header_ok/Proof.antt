@@ -4,19 +4,12 @@ use Rattle.scope.specs.Fit.{headerOk}
 use Rattle.gate.proofs.tests.header_ok.Statement.{statement}
 use Rattle.gate.proofs.tests.header_ok.Tie as tie
 
-root-requires : tie.Need-root-requires
-root-requires c κs = search needs
-
-records-requires : tie.Need-records-requires
-records-requires c κs = search needs
-
-zero-requires : tie.Need-zero-requires
-zero-requires c κs = search needs
-
 returns : tie.Need-returns
 unfolding headerOk
 returns c =
     simp (c .zero .ensures, c .before .records .ensures, c .before .before .root .ensures)
 
 pub header-ok-spec : {M : Type 1} → statement M
-header-ok-spec = tie.close (tie.spec root-requires records-requires zero-requires returns)
+header-ok-spec =
+    tie.close
+    (tie.spec (λ c κs. search needs) (λ c κs. search needs) (λ c κs. search needs) returns)

@@ -5,12 +5,6 @@ use borrow.Author.Needs.{needs}
 use Rattle.gate.proofs.tests.links_ok.Statement.{statement}
 use Rattle.gate.proofs.tests.links_ok.Tie as tie
 
-cast-if1 : tie.Need-cast-if1
-cast-if1 c = search needs
-
-cast-result : tie.Need-cast-result
-cast-result c = search needs
-
 returns : tie.Need-returns
 returns c = rw (le-leb _ _ (c .before .if1 .taken)) refl
 
@@ -18,4 +12,4 @@ returns-2 : tie.Need-returns-2
 returns-2 c = rw (lt-leb _ _ (c .if1 .left)) refl
 
 pub links-ok-spec : {M : Type 1} → statement M
-links-ok-spec = tie.close (tie.spec cast-if1 cast-result returns returns-2)
+links-ok-spec = tie.close (tie.spec (λ c. search needs) (λ c. search needs) returns returns-2)

@@ -5,15 +5,9 @@ use Rattle.scope.specs.Post.{recordOk}
 use Rattle.gate.proofs.tests.record_ok.Statement.{statement}
 use Rattle.gate.proofs.tests.record_ok.Tie as tie
 
-pieces-ok-requires : tie.Need-pieces-ok-requires
-pieces-ok-requires c κs = search needs
-
-state-ok-requires : tie.Need-state-ok-requires
-state-ok-requires c κs = search needs
-
 returns : tie.Need-returns
 unfolding recordOk
 returns c = simp (sym (c .before .pieces-ok .ensures), sym (c .state-ok .ensures))
 
 pub record-ok-spec : {M : Type 1} → statement M
-record-ok-spec = tie.close (tie.spec pieces-ok-requires state-ok-requires returns)
+record-ok-spec = tie.close (tie.spec (λ c κs. search needs) (λ c κs. search needs) returns)

@@ -5,26 +5,11 @@ use Rattle.gate.proofs.Fitting.{burden-le, registers-together}
 use Rattle.gate.proofs.tests.registers_ok.Statement.{statement}
 use Rattle.gate.proofs.tests.registers_ok.Tie as tie
 
-cast-left : tie.Need-cast-left
-cast-left c = search needs
-
-burden-requires : tie.Need-burden-requires
-burden-requires c κs = search needs
-
 add-left : tie.Need-add-left
 add-left c = omega (arith, c .burden .ensures, burden-le (c .before .before .args .s .left))
 
-cast-right : tie.Need-cast-right
-cast-right c = search needs
-
-burden-requires-2 : tie.Need-burden-requires-2
-burden-requires-2 c κs = search needs
-
 add-right : tie.Need-add-right
 add-right c = omega (arith, c .burden2 .ensures, burden-le (c .before .before .before .before .args .s .right))
-
-cast-result : tie.Need-cast-result
-cast-result c = search needs
 
 returns : tie.Need-returns
 returns c =
@@ -35,4 +20,5 @@ returns c =
 pub registers-ok-spec : {M : Type 1} → statement M
 registers-ok-spec =
     tie.close
-    (tie.spec cast-left burden-requires add-left cast-right burden-requires-2 add-right cast-result returns)
+    (tie.spec (λ c. search needs) (λ c κs. search needs) add-left (λ c. search needs) (λ c κs. search needs)
+    add-right (λ c. search needs) returns)

@@ -59,15 +59,5 @@ returns c =
 pub answer-all-spec : {M : Type 1} → statement M
 answer-all-spec =
     tie.close
-    (tie.spec
-    Inv-loop
-    μ-loop
-    loop-holds
-    fill-requires
-    hand-on-requires
-    add-sent
-    loop-less
-    loop-again
-    same-length
-    same-length-2
-    returns)
+    (tie.spec Inv-loop μ-loop loop-holds fill-requires hand-on-requires add-sent loop-less loop-again same-length
+    same-length-2 returns)

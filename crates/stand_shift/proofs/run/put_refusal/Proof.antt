@@ -7,15 +7,6 @@ use Rattle.stand_shift.proofs.Filling.{put-front}
 use Rattle.stand_shift.proofs.run.put_refusal.Statement.{statement}
 use Rattle.stand_shift.proofs.run.put_refusal.Tie as tie
 
-refuse-requires : tie.Need-refuse-requires
-refuse-requires c κs = search needs
-
-put-answer-requires : tie.Need-put-answer-requires
-put-answer-requires c κs = search needs
-
-same-length : tie.Need-same-length
-same-length c = search needs
-
 returns : tie.Need-returns
 returns c =
     let x = c .before .before .put-answer .ensures in
@@ -23,4 +14,4 @@ returns c =
     (put-front (x .put) (omega arith) ∙ ap answerLine e, omega arith)
 
 pub put-refusal-spec : {M : Type 1} → statement M
-put-refusal-spec = tie.close (tie.spec refuse-requires put-answer-requires same-length returns)
+put-refusal-spec = tie.close (tie.spec (λ c κs. search needs) (λ c κs. search needs) (λ c. search needs) returns)

@@ -4,18 +4,12 @@ use Rattle.stand_shift.proofs.Telling.{told-refused}
 use Rattle.stand_shift.proofs.run.refuse_all.Statement.{statement}
 use Rattle.stand_shift.proofs.run.refuse_all.Tie as tie
 
-put-refusal-requires : tie.Need-put-refusal-requires
-put-refusal-requires c κs = search needs
-
 hand-on-requires : tie.Need-hand-on-requires
 hand-on-requires c κs =
     let b = c .before .before .before in
     let put = b .put-refusal .ensures in
     let start = b .before .before .before .before in
     (put .1, told-refused (start .args .input .now) _ _ (start .pre .0) (put .0) (put .1) .0)
-
-same-length : tie.Need-same-length
-same-length c = search needs
 
 returns : tie.Need-returns
 returns c =
@@ -25,4 +19,4 @@ returns c =
     told-refused (start .args .input .now) _ _ (start .pre .0) (put .0) (put .1) .1
 
 pub refuse-all-spec : {M : Type 1} → statement M
-refuse-all-spec = tie.close (tie.spec put-refusal-requires hand-on-requires same-length returns)
+refuse-all-spec = tie.close (tie.spec (λ c κs. search needs) hand-on-requires (λ c. search needs) returns)

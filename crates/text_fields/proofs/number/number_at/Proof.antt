@@ -13,20 +13,11 @@ known : (c : tie.After-value) → Known (c .before .before .before .before .args
     (c .before .before .before .before .args .at) (c .value .given .0 .0) (c .value .given .0 .1 .0)
 known c = digits-known _ _ _ _ (sym (c .value .given .1) ∙ c .before .before .digits-at .ensures)
 
-digits-at-requires : tie.Need-digits-at-requires
-digits-at-requires c κs = search needs
-
-enum-known-value : tie.Need-enum-known-value
-enum-known-value c = search needs
-
 returns : tie.Need-returns
 returns c = number-empty (known (c .before .before)) (c .if1 .taken)
 
 shared-slice-read-if2 : tie.Need-shared-slice-read-if2
 shared-slice-read-if2 c = let k = known (c .before .before .before) in omega (arith, k .place, k .inside)
-
-add-if3 : tie.Need-add-if3
-add-if3 c = search needs
 
 returns-2 : tie.Need-returns-2
 returns-2 c = number-led (known (c .before .before .before .before .before)) (c .if3 .taken) (c .before .if2 .taken)
@@ -49,5 +40,5 @@ returns-4 c = number-over _ _ (digits-too _ _ (sym (c .enum-told .given .1) ∙ 
 pub number-at-spec : {M : Type 1} → statement M
 number-at-spec =
     tie.close
-    (tie.spec digits-at-requires enum-known-value returns shared-slice-read-if2 add-if3 returns-2 cast-t12 enum-told
-    returns-3 returns-4)
+    (tie.spec (λ c κs. search needs) (λ c. search needs) returns shared-slice-read-if2 (λ c. search needs) returns-2
+    cast-t12 enum-told returns-3 returns-4)

@@ -5,9 +5,6 @@ use Rattle.text_fields.specs.Read.{wordThen, numberThen, endThen}
 use Rattle.text_fields.proofs.read.end.Statement.{statement}
 use Rattle.text_fields.proofs.read.end.Tie as tie
 
-enum-known-seen : tie.Need-enum-known-seen
-enum-known-seen c = search needs
-
 enum-told : tie.Need-enum-told
 enum-told c = search needs
 
@@ -24,4 +21,4 @@ unfolding endThen numberThen wordThen
 returns-3 c = simp (c .enum-told .given .1)
 
 pub end-spec : {M : Type 1} → statement M
-end-spec = tie.close (tie.spec enum-known-seen enum-told returns returns-2 returns-3)
+end-spec = tie.close (tie.spec (λ c. search needs) enum-told returns returns-2 returns-3)

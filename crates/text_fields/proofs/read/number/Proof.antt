@@ -5,24 +5,12 @@ use Rattle.text_fields.specs.Read.{wordThen, numberThen, endThen}
 use Rattle.text_fields.proofs.read.number.Statement.{statement}
 use Rattle.text_fields.proofs.read.number.Tie as tie
 
-enum-known-seen : tie.Need-enum-known-seen
-enum-known-seen c = search needs
-
 enum-told : tie.Need-enum-told
 enum-told c = search needs
 
 returns : tie.Need-returns
 unfolding endThen numberThen wordThen
 returns c = simp (c .enum-told .given .1)
-
-number-at-requires : tie.Need-number-at-requires
-number-at-requires c κs = search needs
-
-enum-known-value : tie.Need-enum-known-value
-enum-known-value c = search needs
-
-enum-told-2 : tie.Need-enum-told-2
-enum-told-2 c = search needs
 
 returns-2 : tie.Need-returns-2
 unfolding endThen numberThen wordThen
@@ -38,4 +26,5 @@ returns-3 c = simp (c .before .before .before .before .seen .given .1, sym (c .b
 pub number-spec : {M : Type 1} → statement M
 number-spec =
     tie.close
-    (tie.spec enum-known-seen enum-told returns number-at-requires enum-known-value enum-told-2 returns-2 returns-3)
+    (tie.spec (λ c. search needs) enum-told returns (λ c κs. search needs) (λ c. search needs) (λ c. search needs)
+    returns-2 returns-3)

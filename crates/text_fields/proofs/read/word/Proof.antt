@@ -8,12 +8,6 @@ use Rattle.text_fields.specs.Read.{wordThen, numberThen, endThen}
 use Rattle.text_fields.proofs.read.word.Statement.{statement}
 use Rattle.text_fields.proofs.read.word.Tie as tie
 
-enum-known-seen : tie.Need-enum-known-seen
-enum-known-seen c = search needs
-
-starts-requires : tie.Need-starts-requires
-starts-requires c κs = search needs
-
 add-next : tie.Need-add-next
 add-next c =
     let s = c .before .before .before .before .before .before .before .args .s .now in
@@ -39,4 +33,4 @@ returns-3 c = simp (c .enum-told .given .1)
 pub word-spec : {M : Type 1} → statement M
 word-spec =
     tie.close
-    (tie.spec enum-known-seen starts-requires add-next enum-told returns returns-2 returns-3)
+    (tie.spec (λ c. search needs) (λ c κs. search needs) add-next enum-told returns returns-2 returns-3)

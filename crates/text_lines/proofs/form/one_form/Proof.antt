@@ -5,22 +5,11 @@ use Rattle.text_fields.specs.Read.{fieldsThen}
 use Rattle.text_lines.proofs.form.one_form.Statement.{statement}
 use Rattle.text_lines.proofs.form.one_form.Tie as tie
 
-name-requires : tie.Need-name-requires
-name-requires c κs = search needs
-
-field-requires : tie.Need-field-requires
-field-requires c κs = search needs
-
-end-requires : tie.Need-end-requires
-end-requires c κs = search needs
-
-made-requires : tie.Need-made-requires
-made-requires c κs = search needs
-
 returns : tie.Need-returns
 unfolding tried fieldsThen
 returns c = cc
 
 pub one-form-spec : {M : Type 1} → statement M
 one-form-spec =
-    tie.close (tie.spec name-requires field-requires end-requires made-requires returns)
+    tie.close
+    (tie.spec (λ c κs. search needs) (λ c κs. search needs) (λ c κs. search needs) (λ c κs. search needs) returns)

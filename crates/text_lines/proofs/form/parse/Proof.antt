@@ -10,15 +10,6 @@ returns : tie.Need-returns
 unfolding commandOf
 returns c = rw (lt-ltb _ _ (c .if1 .taken))
 
-plain-forms-requires : tie.Need-plain-forms-requires
-plain-forms-requires c κs = search needs
-
-one-forms-requires : tie.Need-one-forms-requires
-one-forms-requires c κs = search needs
-
-three-forms-requires : tie.Need-three-forms-requires
-three-forms-requires c κs = search needs
-
 returns-2 : tie.Need-returns-2
 unfolding commandOf tried
 returns-2 c =
@@ -29,4 +20,4 @@ returns-2 c =
 pub parse-spec : {M : Type 1} → statement M
 parse-spec =
     tie.close
-    (tie.spec returns plain-forms-requires one-forms-requires three-forms-requires returns-2)
+    (tie.spec returns (λ c κs. search needs) (λ c κs. search needs) (λ c κs. search needs) returns-2)

@@ -5,18 +5,11 @@ use Rattle.text_fields.specs.Read.{fieldsThen}
 use Rattle.text_lines.proofs.form.plain_form.Statement.{statement}
 use Rattle.text_lines.proofs.form.plain_form.Tie as tie
 
-name-requires : tie.Need-name-requires
-name-requires c κs = search needs
-
-end-requires : tie.Need-end-requires
-end-requires c κs = search needs
-
-made-requires : tie.Need-made-requires
-made-requires c κs = search needs
-
 returns : tie.Need-returns
 unfolding tried fieldsThen
 returns c = cc
 
 pub plain-form-spec : {M : Type 1} → statement M
-plain-form-spec = tie.close (tie.spec name-requires end-requires made-requires returns)
+plain-form-spec =
+    tie.close
+    (tie.spec (λ c κs. search needs) (λ c κs. search needs) (λ c κs. search needs) returns)

@@ -5,18 +5,6 @@ use Rattle.text_lines.specs.Form.{formOf}
 use Rattle.text_lines.proofs.form.plain_forms.Statement.{statement}
 use Rattle.text_lines.proofs.form.plain_forms.Tie as tie
 
-slice-aggregate-plain-form : tie.Need-slice-aggregate-plain-form
-slice-aggregate-plain-form c = search needs
-
-plain-form-requires : tie.Need-plain-form-requires
-plain-form-requires c κs = search needs
-
-slice-aggregate-plain-form-2 : tie.Need-slice-aggregate-plain-form-2
-slice-aggregate-plain-form-2 c = search needs
-
-plain-form-requires-2 : tie.Need-plain-form-requires-2
-plain-form-requires-2 c κs = search needs
-
 returns : tie.Need-returns
 unfolding formOf
 returns c =
@@ -26,5 +14,4 @@ returns c =
 pub plain-forms-spec : {M : Type 1} → statement M
 plain-forms-spec =
     tie.close
-    (tie.spec slice-aggregate-plain-form plain-form-requires slice-aggregate-plain-form-2 plain-form-requires-2
-    returns)
+    (tie.spec (λ c. search needs) (λ c κs. search needs) (λ c. search needs) (λ c κs. search needs) returns)

@@ -11,33 +11,12 @@ use Rattle.text_lines.proofs.form.three.Reads as three-reads
 use Rattle.text_fields.proofs.read.end.Reads as end-reads
 
 -- src/form.rt:62:25
-slice-aggregate-three : tie.Need-slice-aggregate-three
-slice-aggregate-three c = search needs
-
 -- src/form.rt:62:35
-slice-aggregate-three-2 : tie.Need-slice-aggregate-three-2
-slice-aggregate-three-2 c = search needs
-
 -- src/form.rt:62:48
-slice-aggregate-three-3 : tie.Need-slice-aggregate-three-3
-slice-aggregate-three-3 c = search needs
-
 -- src/form.rt:62:60
-name-requires : tie.Need-name-requires
-name-requires c κs = search needs
-
 -- src/form.rt:62:9
-three-requires : tie.Need-three-requires
-three-requires c κs = search needs
-
 -- src/form.rt:63:14
-end-requires : tie.Need-end-requires
-end-requires c κs = search needs
-
 -- src/form.rt:63:5
-made-requires : tie.Need-made-requires
-made-requires c κs = search needs
-
 -- src/form.rt:59:1
 returns : tie.Need-returns
 returns c =
@@ -48,5 +27,5 @@ returns c =
 pub record-form-spec : {M : Type 1} → statement M
 record-form-spec =
     tie.close
-    (tie.spec slice-aggregate-three slice-aggregate-three-2 slice-aggregate-three-3 name-requires three-requires
-    end-requires made-requires returns)
+    (tie.spec (λ c. search needs) (λ c. search needs) (λ c. search needs) (λ c κs. search needs)
+    (λ c κs. search needs) (λ c κs. search needs) (λ c κs. search needs) returns)

@@ -8,21 +8,12 @@ use Rattle.text_lines.proofs.form.three.Lts as lts
 use Rattle.text_fields.proofs.read.field.Reads as field-reads
 
 -- src/form.rt:55:29
-field-requires : tie.Need-field-requires
-field-requires c κs = search needs
-
 -- src/form.rt:55:17
-field-requires-2 : tie.Need-field-requires-2
-field-requires-2 c κs = search needs
-
 -- src/form.rt:55:5
-field-requires-3 : tie.Need-field-requires-3
-field-requires-3 c κs = search needs
-
 -- src/form.rt:52:1
 returns : tie.Need-returns
 unfolding fieldsThen
 returns c = cc
 
 pub three-spec : {M : Type 1} → statement M
-three-spec = tie.close (tie.spec field-requires field-requires-2 field-requires-3 returns)
+three-spec = tie.close (tie.spec (λ c κs. search needs) (λ c κs. search needs) (λ c κs. search needs) returns)

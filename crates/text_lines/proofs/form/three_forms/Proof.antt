@@ -13,53 +13,17 @@ use Rattle.text_lines.proofs.form.three.Reads as three-reads
 use Rattle.text_fields.proofs.read.end.Reads as end-reads
 
 -- src/form.rt:89:24
-slice-aggregate-name : tie.Need-slice-aggregate-name
-slice-aggregate-name c = search needs
-
 -- src/form.rt:89:9
-name-requires : tie.Need-name-requires
-name-requires c κs = search needs
-
 -- src/form.rt:90:25
-slice-aggregate-three : tie.Need-slice-aggregate-three
-slice-aggregate-three c = search needs
-
 -- src/form.rt:90:36
-slice-aggregate-three-2 : tie.Need-slice-aggregate-three-2
-slice-aggregate-three-2 c = search needs
-
 -- src/form.rt:90:49
-slice-aggregate-three-3 : tie.Need-slice-aggregate-three-3
-slice-aggregate-three-3 c = search needs
-
 -- src/form.rt:90:9
-three-requires : tie.Need-three-requires
-three-requires c κs = search needs
-
 -- src/form.rt:91:31
-end-requires : tie.Need-end-requires
-end-requires c κs = search needs
-
 -- src/form.rt:91:9
-made-requires : tie.Need-made-requires
-made-requires c κs = search needs
-
 -- src/form.rt:92:42
-slice-aggregate-record-form : tie.Need-slice-aggregate-record-form
-slice-aggregate-record-form c = search needs
-
 -- src/form.rt:92:9
-record-form-requires : tie.Need-record-form-requires
-record-form-requires c κs = search needs
-
 -- src/form.rt:93:30
-slice-aggregate-record-form-2 : tie.Need-slice-aggregate-record-form-2
-slice-aggregate-record-form-2 c = search needs
-
 -- src/form.rt:93:5
-record-form-requires-2 : tie.Need-record-form-requires-2
-record-form-requires-2 c κs = search needs
-
 -- src/form.rt:86:1
 returns : tie.Need-returns
 unfolding formOf
@@ -74,6 +38,6 @@ returns c =
 pub three-forms-spec : {M : Type 1} → statement M
 three-forms-spec =
     tie.close
-    (tie.spec slice-aggregate-name name-requires slice-aggregate-three slice-aggregate-three-2 slice-aggregate-three-3
-    three-requires end-requires made-requires slice-aggregate-record-form record-form-requires
-    slice-aggregate-record-form-2 record-form-requires-2 returns)
+    (tie.spec (λ c. search needs) (λ c κs. search needs) (λ c. search needs) (λ c. search needs) (λ c. search needs)
+    (λ c κs. search needs) (λ c κs. search needs) (λ c κs. search needs) (λ c. search needs) (λ c κs. search needs)
+    (λ c. search needs) (λ c κs. search needs) returns)

@@ -6,17 +6,11 @@ use Rattle.text_fields.proofs.Decimal.{decimal-length}
 use Rattle.text_print.proofs.text.put_field.Statement.{statement}
 use Rattle.text_print.proofs.text.put_field.Tie as tie
 
-put-text-requires : tie.Need-put-text-requires
-put-text-requires c κs = search needs
-
 put-number-requires : tie.Need-put-number-requires
 put-number-requires c κs =
     let s = c .before .before .before .before .before .before .before in
     let e = c .before .before .before .put-text in
     omega (arith, s .pre, decimal-length (s .args .n), e .ensures .place, e .kept .0)
-
-same-length : tie.Need-same-length
-same-length c = search needs
 
 returns : tie.Need-returns
 returns c =
@@ -29,4 +23,4 @@ returns c =
     }
 
 pub put-field-spec : {M : Type 1} → statement M
-put-field-spec = tie.close (tie.spec put-text-requires put-number-requires same-length returns)
+put-field-spec = tie.close (tie.spec (λ c κs. search needs) put-number-requires (λ c. search needs) returns)

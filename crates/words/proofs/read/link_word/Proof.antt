@@ -9,26 +9,8 @@ returns : tie.Need-returns
 unfolding linkAt
 returns c = simp (eq-eqb _ _ (c .if1 .taken))
 
-sub-b : tie.Need-sub-b
-sub-b c = search needs
-
-mul-b : tie.Need-mul-b
-mul-b c = search needs
-
-add-b : tie.Need-add-b
-add-b c = search needs
-
 enum-told : tie.Need-enum-told
 enum-told c = search needs
-
-add-result : tie.Need-add-result
-add-result c = search needs
-
-enum-told-2 : tie.Need-enum-told-2
-enum-told-2 c = search needs
-
-add-result-2 : tie.Need-add-result-2
-add-result-2 c = search needs
 
 returns-2 : tie.Need-returns-2
 unfolding linkAt
@@ -41,4 +23,5 @@ returns-3 c = simp (ne-eqb _ _ (c .before .before .if1 .left), c .enum-told2 .gi
 pub link-word-spec : {M : Type 1} → statement M
 link-word-spec =
     tie.close
-    (tie.spec returns sub-b mul-b add-b enum-told add-result enum-told-2 add-result-2 returns-2 returns-3)
+    (tie.spec returns (λ c. search needs) (λ c. search needs) (λ c. search needs) enum-told (λ c. search needs)
+    (λ c. search needs) (λ c. search needs) returns-2 returns-3)

@@ -4,84 +4,6 @@ use Rattle.scope.specs.Table.{slotAt}
 use Rattle.words.proofs.read.slot_at.Statement.{statement}
 use Rattle.words.proofs.read.slot_at.Tie as tie
 
-sub-b : tie.Need-sub-b
-sub-b c = search needs
-
-mul-b : tie.Need-mul-b
-mul-b c = search needs
-
-add-b : tie.Need-add-b
-add-b c = search needs
-
-mul-t4 : tie.Need-mul-t4
-mul-t4 c = search needs
-
-shared-slice-read-t7 : tie.Need-shared-slice-read-t7
-shared-slice-read-t7 c = search needs
-
-add-t5 : tie.Need-add-t5
-add-t5 c = search needs
-
-mul-t8 : tie.Need-mul-t8
-mul-t8 c = search needs
-
-shared-slice-read-t10 : tie.Need-shared-slice-read-t10
-shared-slice-read-t10 c = search needs
-
-add-t11 : tie.Need-add-t11
-add-t11 c = search needs
-
-mul-t12 : tie.Need-mul-t12
-mul-t12 c = search needs
-
-shared-slice-read-t14 : tie.Need-shared-slice-read-t14
-shared-slice-read-t14 c = search needs
-
-add-t15 : tie.Need-add-t15
-add-t15 c = search needs
-
-mul-t16 : tie.Need-mul-t16
-mul-t16 c = search needs
-
-shared-slice-read-t18 : tie.Need-shared-slice-read-t18
-shared-slice-read-t18 c = search needs
-
-add-t19 : tie.Need-add-t19
-add-t19 c = search needs
-
-mul-t20 : tie.Need-mul-t20
-mul-t20 c = search needs
-
-shared-slice-read-t22 : tie.Need-shared-slice-read-t22
-shared-slice-read-t22 c = search needs
-
-add-t23 : tie.Need-add-t23
-add-t23 c = search needs
-
-mul-t24 : tie.Need-mul-t24
-mul-t24 c = search needs
-
-shared-slice-read-t26 : tie.Need-shared-slice-read-t26
-shared-slice-read-t26 c = search needs
-
-add-t27 : tie.Need-add-t27
-add-t27 c = search needs
-
-mul-t28 : tie.Need-mul-t28
-mul-t28 c = search needs
-
-shared-slice-read-t30 : tie.Need-shared-slice-read-t30
-shared-slice-read-t30 c = search needs
-
-add-t31 : tie.Need-add-t31
-add-t31 c = search needs
-
-mul-t32 : tie.Need-mul-t32
-mul-t32 c = search needs
-
-shared-slice-read-t34 : tie.Need-shared-slice-read-t34
-shared-slice-read-t34 c = search needs
-
 returns : tie.Need-returns
 unfolding slotAt
 returns c = search needs
@@ -89,6 +11,9 @@ returns c = search needs
 pub slot-at-spec : {M : Type 1} → statement M
 slot-at-spec =
     tie.close
-    (tie.spec sub-b mul-b add-b mul-t4 shared-slice-read-t7 add-t5 mul-t8 shared-slice-read-t10 add-t11 mul-t12
-    shared-slice-read-t14 add-t15 mul-t16 shared-slice-read-t18 add-t19 mul-t20 shared-slice-read-t22 add-t23 mul-t24
-    shared-slice-read-t26 add-t27 mul-t28 shared-slice-read-t30 add-t31 mul-t32 shared-slice-read-t34 returns)
+    (tie.spec (λ c. search needs) (λ c. search needs) (λ c. search needs) (λ c. search needs) (λ c. search needs)
+    (λ c. search needs) (λ c. search needs) (λ c. search needs) (λ c. search needs) (λ c. search needs)
+    (λ c. search needs) (λ c. search needs) (λ c. search needs) (λ c. search needs) (λ c. search needs)
+    (λ c. search needs) (λ c. search needs) (λ c. search needs) (λ c. search needs) (λ c. search needs)
+    (λ c. search needs) (λ c. search needs) (λ c. search needs) (λ c. search needs) (λ c. search needs)
+    (λ c. search needs) returns)

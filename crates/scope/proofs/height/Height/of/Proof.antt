@@ -5,12 +5,6 @@ use Rattle.scope.specs.Numbers.{heightOf}
 use Rattle.scope.proofs.height.Height.of.Statement.{statement}
 use Rattle.scope.proofs.height.Height.of.Tie as tie
 
-cast-if1 : tie.Need-cast-if1
-cast-if1 c = search needs
-
-cast-t5 : tie.Need-cast-t5
-cast-t5 c = search needs
-
 returns : tie.Need-returns
 unfolding heightOf
 returns c = simp (le-leb _ _ (c .if1 .taken))
@@ -20,4 +14,4 @@ unfolding heightOf
 returns-2 c = simp (lt-leb _ _ (c .if1 .left))
 
 pub of-spec : {M : Type 1} → statement M
-of-spec = tie.close (tie.spec cast-if1 cast-t5 returns returns-2)
+of-spec = tie.close (tie.spec (λ c. search needs) (λ c. search needs) returns returns-2)

@@ -10,14 +10,8 @@ returns : tie.Need-returns
 unfolding linkOf
 returns c = simp (lt-ltb _ _ (c .if1 .taken))
 
-of-requires : tie.Need-of-requires
-of-requires c κs = search needs
-
 enum-told : tie.Need-enum-told
 enum-told c = search needs
-
-enum-known-on : tie.Need-enum-known-on
-enum-known-on c = search needs
 
 returns-2 : tie.Need-returns-2
 unfolding linkOf
@@ -39,4 +33,5 @@ returns-4 c =
 
 pub of-spec : {M : Type 1} → statement M
 of-spec =
-    tie.close (tie.spec returns of-requires enum-told enum-known-on returns-2 returns-3 returns-4)
+    tie.close
+    (tie.spec returns (λ c κs. search needs) enum-told (λ c. search needs) returns-2 returns-3 returns-4)
