@@ -48,7 +48,8 @@ kept-part o (sonOn s) k j n y a = either (eqb k j)
     either b = elim b [ true ↦ seen-son o s n y | false ↦ refl ]
 kept-part o (registerOn s) k j n y a = rw (ne-eqb k j a) refl
 
-pub registers-kept : (o : Side) (k : ℕ) (es : List Edit) (y : Slot) → RegistersKept k es → seen o (edited es k y) ≡ seen o y
+pub registers-kept : (o : Side) (k : ℕ) (es : List Edit) (y : Slot) → RegistersKept k es
+    → seen o (edited es k y) ≡ seen o y
 unfolding edited
 registers-kept o k [] y a = refl
 registers-kept o k (e ∷ es) y a = registers-kept o k es _ (a .1) ∙ kept-part o (e .part) k (e .slot) (e .what) y (a .0)
@@ -98,4 +99,5 @@ module _ {t : List ℕ} {c : ℕ} (z : Sized t c) (r : Rule) (n : Nodes) (a : Ar
 
     -- and of the holder no register
     pub registers-stay : (o : Side) → seen o (slotAt fired y) ≡ seen o (slotAt t y)
-    registers-stay o = ap (seen o) (after .slots y i) ∙ registers-kept o y edits _ (kept-there (r .side) n y b (r .kind))
+    registers-stay o =
+        ap (seen o) (after .slots y i) ∙ registers-kept o y edits _ (kept-there (r .side) n y b (r .kind))
