@@ -6,7 +6,7 @@ use mathlib.Core.List.{List}
 use native.Mathlib.Nat.{zero-div}
 use native.Mathlib.Decide.{decLt}
 use native.Mathlib.Omega.{arith}
-use lib.ListN.{getD, replicate, getD-replicate}
+use lib.ListN.{getD}
 use lib.Dec.{eqb}
 use borrow.Author.Tests.{eqb-true}
 use Rattle.scope.proofs.Bools.{and-l, and-r}
@@ -47,10 +47,3 @@ below-on (suc n) e b h =
 
 pub all-on : (b : ℕ) → b < 64 → 18446744073709551615 / 2 ^ b % 2 ≡ 1
 all-on = below-on 64 (unfold allOn in refl)
-
--- where every word is the largest, every slot is on
-pub all-marks : (k : ℕ) → k < 4096 → bitAt (replicate 64 18446744073709551615) k ≡ 1
-unfolding bitAt
-all-marks k h =
-    ap (λ (w : ℕ). w / 2 ^ (k % 64) % 2) (getD-replicate 64 (k / 64) 18446744073709551615 0 (omega arith))
-    ∙ all-on (k % 64) (omega arith)

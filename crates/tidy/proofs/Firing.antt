@@ -159,10 +159,10 @@ module _ {t : List ℕ} {c : ℕ} {h m : List ℕ} {r : Rule} {x : Nodes} (f : T
                   listed = record {
                     agenda = around .agenda;
                     zero = around .zero (f .running .listed .zero);
-                    off = λ j i l e.
-                        elim (around .off j (omega (arith, f .running .whole .sized .most)) e) [
+                    unlisted = λ j i l e.
+                        elim (around .unlisted j (omega (arith, f .running .whole .sized .most)) e) [
                           | looked z ↦ λ n p q. may-not-be-due t′ c j z n
-                          | passed z o ↦ λ n p q. still-none j i l z n ∙ f .running .listed .off j i l o n p q
+                          | passed z o ↦ λ n p q. still-none j i l z n ∙ f .running .listed .unlisted j i l o n p q
                         ];
                   };
                 };

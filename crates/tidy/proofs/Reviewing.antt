@@ -29,20 +29,20 @@ told false e = refl
 
 module _ {t : List ℕ} {c : ℕ} where
   pub none-looked : {m : List ℕ} → Agenda m → Without t c (λ j. Unit {0}) m m
-  none-looked a = record { agenda = a; zero = λ z. z; off = λ k h e. passed tt e }
+  none-looked a = record { agenda = a; zero = λ z. z; unlisted = λ k h e. passed tt e }
 
   module _ {P : ℕ → Type 0} {m m₁ : List ℕ} (w : Without t c P m m₁) where
     pub one-looked : {k : ℕ} {m₂ : List ℕ} → 1 ≤ k → Reviewed t c m₁ k m₂ → Without t c (λ j. P j × (j ≡ k → ⊥)) m m₂
     one-looked {k} i r = record {
       agenda = r .agenda;
       zero = λ z. (rw (ne-eqb 0 k (λ e. omega arith)) at (r .bits 0 (omega arith))) ∙ w .zero z;
-      off = λ j h e. elim (ℕ-discrete j k) [
+      unlisted = λ j h e. elim (ℕ-discrete j k) [
         | yes q ↦
             let f = rw (eq-eqb j k q) at (r .bits j h) in
             looked (rw q (told _ (sym f ∙ e)))
         | no q ↦
             let f = rw (ne-eqb j k q) at (r .bits j h) in
-            elim (w .off j h (sym f ∙ e)) [ looked g ↦ looked g | passed p z ↦ passed (p, q) z ]
+            elim (w .unlisted j h (sym f ∙ e)) [ looked g ↦ looked g | passed p z ↦ passed (p, q) z ]
       ];
     }
 
@@ -50,7 +50,7 @@ module _ {t : List ℕ} {c : ℕ} where
     as-without f = record {
       agenda = w .agenda;
       zero = w .zero;
-      off = λ k h e. elim (w .off k h e) [ looked g ↦ looked g | passed p z ↦ passed (f k p) z ];
+      unlisted = λ k h e. elim (w .unlisted k h e) [ looked g ↦ looked g | passed p z ↦ passed (f k p) z ];
     }
 
   -- the nodes of a rule with a third, and without
@@ -71,21 +71,21 @@ module _ {t : List ℕ} {c : ℕ} where
   all-further {m} {k} s i l r = record {
     agenda = r .agenda;
     zero = (rw (ne-eqb 0 k (λ e. omega arith)) at (r .bits 0 (omega arith))) ∙ s .zero;
-    off = λ j f g h e. elim (ℕ-discrete j k) [
+    unlisted = λ j f g h e. elim (ℕ-discrete j k) [
       | yes q ↦ rw q (told _ (sym (rw (eq-eqb j k q) at (r .bits j (omega arith))) ∙ e))
-      | no q ↦ s .off j f g (omega arith) (sym (rw (ne-eqb j k q) at (r .bits j (omega arith))) ∙ e)
+      | no q ↦ s .unlisted j f g (omega arith) (sym (rw (ne-eqb j k q) at (r .bits j (omega arith))) ∙ e)
     ];
   }
 
   -- and no slot is left
   pub all-off : {m : List ℕ} {k : ℕ} → AllReviewed t c m k → c < k → AllReviewed t c m (c + 1)
-  all-off s l = record { agenda = s .agenda; zero = s .zero; off = λ j f g h e. s .off j f g (omega arith) e }
+  all-off s l = record { agenda = s .agenda; zero = s .zero; unlisted = λ j f g h e. s .unlisted j f g (omega arith) e }
 
   pub all-listed : {m : List ℕ} → AllReviewed t c m (c + 1) → DueListed t c m
   all-listed s = record {
     agenda = s .agenda;
     zero = s .zero;
-    off = λ k i j e n p q. may-not-be-due t c k (s .off k i j (omega arith) e) n;
+    unlisted = λ k i j e n p q. may-not-be-due t c k (s .unlisted k i j (omega arith) e) n;
   }
 
 -- an agenda that lists none
@@ -107,5 +107,5 @@ all-start t c = record {
         ∙ ap (λ (w : ℕ). cond (eqb w 0) 0 1) (sym (word-zero i (omega arith)));
   };
   zero = bit-zero 0 (omega arith);
-  off = λ k i j h e. absurd (omega arith);
+  unlisted = λ k i j h e. absurd (omega arith);
 }

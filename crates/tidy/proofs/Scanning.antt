@@ -30,7 +30,7 @@ use Rattle.tidy.proofs.Order.{order-none, order-at}
 
 module _ {t : List ℕ} {c : ℕ} {m : List ℕ} (s : DueListed t c m) {v : ℕ} (l : Lowest m v) where
   none-below : (k : ℕ) → 1 ≤ k → k ≤ c → k < v → NoneDue t c k
-  none-below k i j h = s .off k i j (l .below k h)
+  none-below k i j h = s .unlisted k i j (l .below k h)
 
   pub none-next : c < v → nextOf t c ≡ Nothing
   unfolding nextOf
@@ -53,9 +53,9 @@ module _ {t : List ℕ} {c : ℕ} {m : List ℕ} (s : DueListed t c m) {v : ℕ}
     struck-on d x = record {
       agenda = x .agenda;
       zero = (rw (ne-eqb 0 v (λ e. omega (arith, slot-first))) at (x .bits 0 (omega arith))) ∙ s .zero;
-      off = λ k i j e. elim (ℕ-discrete k v) [
+      unlisted = λ k i j e. elim (ℕ-discrete k v) [
         | yes q ↦ rw q d
-        | no q ↦ s .off k i j (sym (rw (ne-eqb k v q) at (x .bits k (omega arith))) ∙ e)
+        | no q ↦ s .unlisted k i j (sym (rw (ne-eqb k v q) at (x .bits k (omega arith))) ∙ e)
       ];
     }
 

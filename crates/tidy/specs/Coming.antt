@@ -23,7 +23,7 @@ NoneDue t c k = (n : ℕ) → 1 ≤ n → n ≤ 8 → passes true t c k n ≡ fa
 pub record DueListed (t : List ℕ) (c : ℕ) (m : List ℕ) : Type 0 where
   pub agenda : Agenda m
   pub zero : bitAt m 0 ≡ 0
-  pub off : (k : ℕ) → 1 ≤ k → k ≤ c → bitAt m k ≡ 0 → NoneDue t c k
+  pub unlisted : (k : ℕ) → 1 ≤ k → k ≤ c → bitAt m k ≡ 0 → NoneDue t c k
 
 -- a sound table whose links are noted, with its agenda
 pub record Running (t : List ℕ) (c : ℕ) (h m : List ℕ) : Type 0 where

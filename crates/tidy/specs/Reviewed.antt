@@ -34,7 +34,7 @@ pub data Unlisted (t : List ℕ) (c : ℕ) (P : ℕ → Type 0) (m : List ℕ) (
 pub record Without (t : List ℕ) (c : ℕ) (P : ℕ → Type 0) (m m′ : List ℕ) : Type 0 where
   pub agenda : Agenda m′
   pub zero : bitAt m 0 ≡ 0 → bitAt m′ 0 ≡ 0
-  pub off : (k : ℕ) → k < 4096 → bitAt m′ k ≡ 0 → Unlisted t c P m k
+  pub unlisted : (k : ℕ) → k < 4096 → bitAt m′ k ≡ 0 → Unlisted t c P m k
 
 -- the nodes of a firing; where its kind has no third, that is u
 pub record Around (t : List ℕ) (c : ℕ) (m : List ℕ) (kind : Kind) (x : Nodes) : Type 0 where
@@ -50,4 +50,4 @@ NodesReviewed t c m x m′ = Without t c (NoNode x) m m′
 pub record AllReviewed (t : List ℕ) (c : ℕ) (m : List ℕ) (next : ℕ) : Type 0 where
   pub agenda : Agenda m
   pub zero : bitAt m 0 ≡ 0
-  pub off : (k : ℕ) → 1 ≤ k → k ≤ c → k < next → bitAt m k ≡ 0 → mayBeDue t c (slotAt t k) ≡ false
+  pub unlisted : (k : ℕ) → 1 ≤ k → k ≤ c → k < next → bitAt m k ≡ 0 → mayBeDue t c (slotAt t k) ≡ false

@@ -12,13 +12,11 @@ use Rattle.scope.proofs.Bools.{by-bool}
 use Rattle.marks.specs.Marks.{bitAt}
 use Rattle.marks.proofs.Passing.{none-on}
 use Rattle.tidy_agenda.specs.Agenda.{Agenda, LowestBit, Lowest}
-use Rattle.tidy_agenda.proofs.Zeros.{First, first-on}
+use Rattle.tidy_agenda.proofs.Zeros.{first-on}
 
 -- the zeros of a word that is not 0
-pub lowest-bit : (w : ℕ) → w < 2 ^ 64 → (w ≡ 0 → ⊥) → LowestBit w (trailingZeros 64 w)
-lowest-bit w l ne =
-    let f : First w 64 (trailingZeros 64 w) = first-on 64 64 w (omega arith) l (omega arith) in
-    record { inside = f .inside; on = f .on; off = f .off }
+pub lowest-bit : (w : ℕ) → w < 2 ^ 64 → (w ≡ 0 → ⊥) → LowestBit w 64 (trailingZeros 64 w)
+lowest-bit w l ne = first-on 64 64 w (omega arith) l (omega arith)
 
 module _ {m : List ℕ} (a : Agenda m) where
   -- the bits of the word above
@@ -51,7 +49,7 @@ module _ {m : List ℕ} (a : Agenda m) where
     below = λ j l. unlisted j l (ap (λ (w : ℕ). w / 2 ^ (j / 64) % 2) z ∙ none-on (j / 64));
   }
 
-  pub lowest-slot : {i b : ℕ} → LowestBit (getD m 64 0) i → LowestBit (getD m i 0) b → Lowest m (64 * i + b)
+  pub lowest-slot : {i b : ℕ} → LowestBit (getD m 64 0) 64 i → LowestBit (getD m i 0) 64 b → Lowest m (64 * i + b)
   unfolding bitAt
   lowest-slot {i} {b} f g =
       let word : (64 * i + b) / 64 ≡ i = omega (arith, g .inside) in

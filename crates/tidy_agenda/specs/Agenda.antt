@@ -23,9 +23,9 @@ Listed m k m' = BitPut 1 m k m'
 abbrev pub Struck : List ℕ → ℕ → List ℕ → Type 0
 Struck m k m' = BitPut 0 m k m'
 
--- bit b of a word is on, and none below it
-pub record LowestBit (w b : ℕ) : Type 0 where
-  pub inside : b < 64
+-- bit b of w, a number of d bits, is on, and none below it
+pub record LowestBit (w d b : ℕ) : Type 0 where
+  pub inside : b < d
   pub on : w / 2 ^ b % 2 ≡ 1
   pub off : (j : ℕ) → j < b → w / 2 ^ j % 2 ≡ 0
 

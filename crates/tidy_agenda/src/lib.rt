@@ -42,7 +42,7 @@ pub fn strike(m: &mut [u64; 65], k: usize)
 // The lowest bit that is on in a word.
 pub fn lowest_in(m: &[u64; 65], at: usize) -> usize
     requires { ⌜ (at < 65) × (getD (now m) at 0 ≡ 0 → ⊥) ⌝ }
-    ensures { λ b. ⌜ LowestBit (getD (now (m .entry)) at 0) b ⌝ }
+    ensures { λ b. ⌜ LowestBit (getD (now (m .entry)) at 0) 64 b ⌝ }
 {
     let word = &m[at];
     u64::trailing_zeros(*word) as usize

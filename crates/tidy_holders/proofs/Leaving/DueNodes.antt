@@ -88,7 +88,7 @@ module _ {t : List ℕ} {c : ℕ} (wh : Whole t c) {v n : ℕ} (d : Due t c v n)
         let j : AreSlots (nodesAt t r link (word t (linkAt link))) = rw (linked .1) node-slots in
         rw fired-is (rw (linked .1) at (fired-holds wh link (linked .0) o r j))
 
-    -- a slot that is not put on is away from the firing
+    -- a slot that is not looked at again is away from the firing
     pub away : (x : ℕ) → 1 ≤ x → x ≤ c → Unnoted h nodes x → Elsewhere t nodes x
     away = unnoted-away o link (linked .0) (rw (linked .1) (d .first)) nodes refl (sym (linked .1))
 

@@ -24,13 +24,13 @@ use Rattle.tidy_holders.specs.Away.{NoNode}
 use Rattle.tidy_holders.proofs.Noting.Acts.{AreSlots, action-edits}
 
 -- no register of slot k is written
-abbrev CalmPart : Part → ℕ → ℕ → Type 0
-CalmPart (sonOn s) k j = Unit {0}
-CalmPart (registerOn s) k j = k ≡ j → ⊥
+abbrev KeptPart : Part → ℕ → ℕ → Type 0
+KeptPart (sonOn s) k j = Unit {0}
+KeptPart (registerOn s) k j = k ≡ j → ⊥
 
-abbrev pub Calm : ℕ → List Edit → Type 0
-Calm k [] = Unit {0}
-Calm k (e ∷ es) = CalmPart (e .part) k (e .slot) × Calm k es
+abbrev pub RegistersKept : ℕ → List Edit → Type 0
+RegistersKept k [] = Unit {0}
+RegistersKept k (e ∷ es) = KeptPart (e .part) k (e .slot) × RegistersKept k es
 
 -- a link has no part in the registers
 seen-son : (o s : Side) (n : ℕ) (y : Slot) → seen o (withPart (sonOn s) n y) ≡ seen o y
@@ -40,27 +40,28 @@ seen-son Left Right n y = refl
 seen-son Right Left n y = refl
 seen-son Right Right n y = refl
 
-calm-part : (o : Side) (p : Part) (k j n : ℕ) (y : Slot) → CalmPart p k j
+kept-part : (o : Side) (p : Part) (k j n : ℕ) (y : Slot) → KeptPart p k j
     → seen o (cond (eqb k j) (withPart p n y) y) ≡ seen o y
-calm-part o (sonOn s) k j n y a = either (eqb k j)
+kept-part o (sonOn s) k j n y a = either (eqb k j)
   where
     either : (b : Bool) → seen o (cond b (withPart (sonOn s) n y) y) ≡ seen o y
     either b = elim b [ true ↦ seen-son o s n y | false ↦ refl ]
-calm-part o (registerOn s) k j n y a = rw (ne-eqb k j a) refl
+kept-part o (registerOn s) k j n y a = rw (ne-eqb k j a) refl
 
-pub calm : (o : Side) (k : ℕ) (es : List Edit) (y : Slot) → Calm k es → seen o (edited es k y) ≡ seen o y
+pub registers-kept : (o : Side) (k : ℕ) (es : List Edit) (y : Slot) → RegistersKept k es
+    → seen o (edited es k y) ≡ seen o y
 unfolding edited
-calm o k [] y a = refl
-calm o k (e ∷ es) y a = calm o k es _ (a .1) ∙ calm-part o (e .part) k (e .slot) (e .what) y (a .0)
+registers-kept o k [] y a = refl
+registers-kept o k (e ∷ es) y a = registers-kept o k es _ (a .1) ∙ kept-part o (e .part) k (e .slot) (e .what) y (a .0)
 
 -- a slot that is none of the nodes
 module _ (s : Side) (n : Nodes) (x : ℕ) (a : NoNode n x) where
   -- its registers stay, and all of it if it does not hold the link either
-  pub calm-there : (k : Kind) → Calm x (action k s n)
-  calm-there Propagate = (a .v, tt)
-  calm-there Lean = (tt, (tt, (tt, (a .v, (a .u, tt)))))
-  calm-there Even = (tt, (tt, (tt, (a .v, (a .u, tt)))))
-  calm-there Double = (tt, (tt, (tt, (tt, (tt, (a .u, (a .v, (a .w, (a .w, tt)))))))))
+  pub kept-there : (k : Kind) → RegistersKept x (action k s n)
+  kept-there Propagate = (a .v, tt)
+  kept-there Lean = (tt, (tt, (tt, (a .v, (a .u, tt)))))
+  kept-there Even = (tt, (tt, (tt, (a .v, (a .u, tt)))))
+  kept-there Double = (tt, (tt, (tt, (tt, (tt, (a .u, (a .v, (a .w, (a .w, tt)))))))))
 
   pub away-there : (x ≡ n .link .holder → ⊥) → (k : Kind) → Away x (action k s n)
   away-there g Propagate = (a .v, tt)
@@ -88,14 +89,15 @@ module _ {t : List ℕ} {c : ℕ} (z : Sized t c) (r : Rule) (n : Nodes) (a : Ar
   abbrev edits : List Edit
   edits = action (r .kind) (r .side) n
 
-  afterMoves : Rewritten t fired c edits
-  afterMoves = rw (action-edits r n a) (rewritten z edits (inside-there c (r .side) n l (r .kind)))
+  after : Rewritten t fired c edits
+  after = rw (action-edits r n a) (rewritten z edits (inside-there c (r .side) n l (r .kind)))
 
   module _ (y : ℕ) (i : 1 ≤ y) (b : NoNode n y) where
     -- A FIRING CHANGES NO SLOT but its nodes and the holder of its link
     pub untouched : (y ≡ n .link .holder → ⊥) → slotAt fired y ≡ slotAt t y
-    untouched g = afterMoves .slots y i ∙ edited-away y edits _ (away-there (r .side) n y b g (r .kind))
+    untouched g = after .slots y i ∙ edited-away y edits _ (away-there (r .side) n y b g (r .kind))
 
     -- and of the holder no register
     pub registers-stay : (o : Side) → seen o (slotAt fired y) ≡ seen o (slotAt t y)
-    registers-stay o = ap (seen o) (afterMoves .slots y i) ∙ calm o y edits _ (calm-there (r .side) n y b (r .kind))
+    registers-stay o =
+        ap (seen o) (after .slots y i) ∙ registers-kept o y edits _ (kept-there (r .side) n y b (r .kind))

@@ -15,8 +15,7 @@ fill-requires c κs = search needs
 
 review-all-requires : tie.Need-review-all-requires
 review-all-requires c κs =
-    let w = c .before .before .before .before .before .before .before .before in
-    let a = w in
+    let a = c .before .before .before .before .before .before .before .before in
     (a .pre .sized, all-start (now (a .args .t)) (a .args .c))
 
 run-requires : tie.Need-run-requires
@@ -41,8 +40,7 @@ same-length c = search needs
 
 returns : tie.Need-returns
 returns c =
-    let w = c .before .before .before .before .before in
-    let b = w in
+    let b = c .before .before .before .before .before in
     let a =
     b .before .before .before .before .before .before .before .before .before .before .before .before .before in
     told-so (now (a .args .t)) (a .args .c) (a .args .budget) (b .run .ensures)

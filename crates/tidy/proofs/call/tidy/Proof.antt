@@ -30,8 +30,7 @@ same-length c = search needs
 
 returns : tie.Need-returns
 returns c =
-    let w = c .before .before .before .before in
-    let b = w in
+    let b = c .before .before .before .before in
     let a = b .before .before .before .args in
     let e = sym
     (tidy-shut (now (a .t)) (a .budget) (sym (b .enter-sound .ensures) ∙ c .before .before .why .given .1)) in

@@ -18,16 +18,14 @@ act-and-note-requires c κs = may-act (c .before .before .before .before .before
 
 review-nodes-requires : tie.Need-review-nodes-requires
 review-nodes-requires c κs =
-    let w = c .before .before .before .before in
-    let a = w in
+    let a = c .before .before .before .before in
     let b = a .before .before .before in
     nodes-around (b .before .before .before .before .before .pre) (b .before .before .above .ensures)
     (b .above2 .ensures) (a .act-and-note .ensures)
 
 review-requires : tie.Need-review-requires
 review-requires c κs =
-    let w = c .before .before .before .before .before .before .before in
-    let a = w in
+    let a = c .before .before .before .before .before .before .before in
     let b = a .before .before .before in
     at-above (b .before .before .before .before .before .pre) (b .before .before .above .ensures)
     (b .above2 .ensures) (a .act-and-note .ensures) (c .before .before .review-nodes .ensures)
@@ -46,8 +44,7 @@ same-length c = search needs
 returns : tie.Need-returns
 returns c =
     let w = c .before .before .before .before .before .before in
-    let y = w .before .before .before .before .before in
-    let a = y in
+    let a = w .before .before .before .before .before in
     let b = a .before .before .before in
     fired-so (b .before .before .before .before .before .pre) (b .before .before .above .ensures)
     (b .above2 .ensures) (a .act-and-note .ensures) (w .review-nodes .ensures)

@@ -75,8 +75,7 @@ link-requires c κs =
 nodes-requires : tie.Need-nodes-requires Inv-loop μ-loop Inv-slots μ-slots
 nodes-requires c κs =
     let w = c .before .before .before .before .before in
-    let y = w .before .before .before .before in
-    let b = y in
+    let b = w .before .before .before .before in
     let a = b .before .before .before .before .before .before .before .before .before in
     let p = a .pre in
     let e = sym (w .before .before .of .ensures) ∙ w .r .given .1 in
