@@ -13,7 +13,7 @@ returns c =
     let b11 = b9 .before .before in
     let a = b11 .args in
     copied-written (now (a .t)) (a .c) (a .n) (a .near) (b7 .other .ensures) (b9 .seen .ensures)
-    (b6 .copy-register .ensures) (c .before .before .put-register2 .ensures)
+    (b6 .copy-register .ensures) (c .before .before .copy-register2 .ensures)
 
 pub twice-copied-spec : {M : Type 1} → statement M
 twice-copied-spec =
