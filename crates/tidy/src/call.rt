@@ -1,10 +1,9 @@
 // The call tidy.
 use crate::review::review_all;
-use crate::run::run;
+use crate::run::run_budget;
 use scope::Answer;
 use scope::Gate;
-ghost use mathlib.Core.Path.{_≡_};
-ghost use Rattle.scope.specs.Tidy.{tidyAnswer, tidyTable};
+ghost use Rattle.scope.specs.Calls.{Tidy, Promise};
 ghost use Rattle.spelling.specs.Whole.{Whole};
 ghost use Rattle.tidy.specs.Run.{TidiedSo};
 
@@ -16,14 +15,14 @@ pub fn tidied(t: &mut [u32], c: usize, budget: u32) -> Answer
     let change = words::change(t);
     let mut h = [0u32; 4096];
     let mut m = [0u64; 65];
-    tidy_holders::fill(t, c, &mut h);
+    tidy_holders::note_all(t, c, &mut h);
     review_all(t, c, &mut m);
-    let e = run(t, c, &mut h, &mut m, budget);
+    let e = run_budget(t, c, &mut h, &mut m, budget);
     gate::accept(words::long(change), words::long(e.made), e.more, 0)
 }
 
 pub fn tidy(t: &mut [u32], budget: u32) -> Answer
-    ensures { λ a. ⌜ (a ≡ tidyAnswer (now (t .entry)) budget) × (now (t .exit) ≡ tidyTable (now (t .entry)) budget) ⌝ }
+    ensures { λ a. ⌜ Promise (Tidy budget) (now (t .entry)) a (now (t .exit)) ⌝ }
 {
     match sound::enter_sound(t, true) {
         Gate::Shut(why) => gate::refuse(why),

@@ -56,7 +56,13 @@ pub fn fire_next(t: &mut [u32], c: usize, h: &mut [u32; 4096], m: &mut [u64; 65]
 }
 
 // Makes at most so many firings. Where no rule is due no guard holds, so the scan that ends a run tells that too.
-pub fn run(t: &mut [u32], c: usize, h: &mut [u32; 4096], m: &mut [u64; 65], budget: u32) -> End
+pub fn run_budget(
+    t: &mut [u32],
+    c: usize,
+    h: &mut [u32; 4096],
+    m: &mut [u64; 65],
+    budget: u32,
+) -> End
     requires { ⌜ Running (now t) c (now h) (now m) ⌝ }
     ensures { λ e. ⌜ Ended (now (t .entry)) c budget e (now (t .exit)) ⌝ }
 {

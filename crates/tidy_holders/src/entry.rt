@@ -8,7 +8,7 @@ ghost use Rattle.tidy_holders.specs.Codes.{linkFor, linkNumber, linkNumb
 ghost use Rattle.tidy_holders.specs.Holds.{Noting, Entries};
 
 // The number of a link.
-pub fn code(holder: usize, side: Side) -> u32
+pub fn link_number(holder: usize, side: Side) -> u32
     requires { ⌜ holder ≤ 4095 ⌝ }
     ensures { λ r. ⌜ r ≡ linkNumber (linkFor holder side) ⌝ }
 {
@@ -23,7 +23,7 @@ pub fn note(h: &mut [u32; 4096], k: usize, holder: usize, side: Side)
     requires { ⌜ Noting (now h) k holder ⌝ }
     ensures { λ _. ⌜ Entries (set (now (h .entry)) k (linkNumber (linkFor holder side))) (now (h .exit)) ⌝ }
 {
-    h[k] = code(holder, side);
+    h[k] = link_number(holder, side);
 }
 
 // The link that holds slot k.

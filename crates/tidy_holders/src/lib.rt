@@ -7,4 +7,4 @@ pub use entry::above;
 pub use entry::link;
 pub use moves::turned;
 pub use moves::turned_twice;
-pub use pass::fill;
+pub use pass::note_all;

@@ -19,7 +19,7 @@ pub fn turned(h: &mut [u32; 4096], n: Nodes, near: Side)
 }
 
 // w takes v's link, with u near and v far.
-pub fn twice_top(h: &mut [u32; 4096], n: Nodes, near: Side)
+pub fn top_moved(h: &mut [u32; 4096], n: Nodes, near: Side)
     requires { ⌜ Moving (now h) n near ⌝ }
     ensures { λ _. ⌜ Entries (topNoted near n (now (h .entry))) (now (h .exit)) ⌝ }
 {
@@ -31,7 +31,7 @@ pub fn twice_top(h: &mut [u32; 4096], n: Nodes, near: Side)
 }
 
 // w's old sons hang at u's far side and v's near side.
-pub fn twice_sons(h: &mut [u32; 4096], n: Nodes, near: Side)
+pub fn sons_moved(h: &mut [u32; 4096], n: Nodes, near: Side)
     requires { ⌜ Moving (now h) n near ⌝ }
     ensures { λ _. ⌜ Entries (lowNoted near n (now (h .entry))) (now (h .exit)) ⌝ }
 {
@@ -45,6 +45,6 @@ pub fn turned_twice(h: &mut [u32; 4096], n: Nodes, near: Side)
     requires { ⌜ Moving (now h) n near ⌝ }
     ensures { λ _. ⌜ Entries (noted (rotatedTwice near n) (now (h .entry))) (now (h .exit)) ⌝ }
 {
-    twice_top(h, n, near);
-    twice_sons(h, n, near);
+    top_moved(h, n, near);
+    sons_moved(h, n, near);
 }

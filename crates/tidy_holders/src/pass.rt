@@ -16,7 +16,7 @@ pub fn note_sons(t: &[u32], h: &mut [u32; 4096], k: usize)
     note(h, words::son(s, Side::Right), k, Side::Right);
 }
 
-pub fn fill(t: &[u32], c: usize, h: &mut [u32; 4096])
+pub fn note_all(t: &[u32], c: usize, h: &mut [u32; 4096])
     requires { ⌜ Whole (now t) c × (length (now h) ≡ 4096) ⌝ }
     ensures { λ _. ⌜ AllNoted (now (t .entry)) c (now (h .exit)) ⌝ }
 {

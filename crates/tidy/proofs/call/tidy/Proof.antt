@@ -8,25 +8,10 @@ use Rattle.tidy.proofs.Outcome.{tidy-shut, tidy-open}
 use Rattle.tidy.proofs.call.tidy.Statement.{statement}
 use Rattle.tidy.proofs.call.tidy.Tie as tie
 
-enter-sound-requires : tie.Need-enter-sound-requires
-enter-sound-requires c κs = search needs
-
-enum-known-why : tie.Need-enum-known-why
-enum-known-why c = search needs
-
-refuse-requires : tie.Need-refuse-requires
-refuse-requires c κs = search needs
-
-enum-known-c : tie.Need-enum-known-c
-enum-known-c c = search needs
-
 tidied-requires : tie.Need-tidied-requires
 tidied-requires c κs =
     let a = c .before .before .before .before in
     opened (now (a .before .before .before .args .t)) _ _ (a .enter-sound .ensures) (c .before .before .c .given .1)
-
-same-length : tie.Need-same-length
-same-length c = search needs
 
 returns : tie.Need-returns
 returns c =
@@ -35,9 +20,6 @@ returns c =
     let e = sym
     (tidy-shut (now (a .t)) (a .budget) (sym (b .enter-sound .ensures) ∙ c .before .before .why .given .1)) in
     (c .refuse .ensures ∙ ap (λ (d : Done). d .answer) e, ap (λ (d : Done). d .words) e)
-
-same-length-2 : tie.Need-same-length-2
-same-length-2 c = search needs
 
 returns-2 : tie.Need-returns-2
 returns-2 c =
@@ -49,13 +31,5 @@ returns-2 c =
 pub tidy-spec : {M : Type 1} → statement M
 tidy-spec =
     tie.close
-    (tie.spec
-    enter-sound-requires
-    enum-known-why
-    refuse-requires
-    enum-known-c
-    tidied-requires
-    same-length
-    returns
-    same-length-2
-    returns-2)
+    (tie.spec (λ c κs. search needs) (λ c. search needs) (λ c κs. search needs) (λ c. search needs) tidied-requires
+    (λ c. search needs) returns (λ c. search needs) returns-2)

@@ -5,18 +5,6 @@ use Rattle.tidy.proofs.Reviewing.{by-test}
 use Rattle.tidy.proofs.review.review.Statement.{statement}
 use Rattle.tidy.proofs.review.review.Tie as tie
 
-slot-at-requires : tie.Need-slot-at-requires
-slot-at-requires c κs = search needs
-
-may-be-due-requires : tie.Need-may-be-due-requires
-may-be-due-requires c κs = search needs
-
-list-requires : tie.Need-list-requires
-list-requires c κs = search needs
-
-strike-requires : tie.Need-strike-requires
-strike-requires c κs = search needs
-
 returns : tie.Need-returns
 returns c =
     let a = c .before .before .before in
@@ -34,4 +22,5 @@ returns-2 c =
 pub review-spec : {M : Type 1} → statement M
 review-spec =
     tie.close
-    (tie.spec slot-at-requires may-be-due-requires list-requires strike-requires returns returns-2)
+    (tie.spec (λ c κs. search needs) (λ c κs. search needs) (λ c κs. search needs) (λ c κs. search needs) returns
+    returns-2)

@@ -5,18 +5,6 @@ use Rattle.tidy.proofs.Reviewing.{two-looked, three-looked}
 use Rattle.tidy.proofs.review.review_nodes.Statement.{statement}
 use Rattle.tidy.proofs.review.review_nodes.Tie as tie
 
-review-requires : tie.Need-review-requires
-review-requires c κs = search needs
-
-review-requires-2 : tie.Need-review-requires-2
-review-requires-2 c κs = search needs
-
-has-third-requires : tie.Need-has-third-requires
-has-third-requires c κs = search needs
-
-review-requires-3 : tie.Need-review-requires-3
-review-requires-3 c κs = search needs
-
 returns : tie.Need-returns
 returns c =
     let a = c .before .before .before .before in
@@ -34,10 +22,5 @@ returns-2 c =
 pub review-nodes-spec : {M : Type 1} → statement M
 review-nodes-spec =
     tie.close
-    (tie.spec
-    review-requires
-    review-requires-2
-    has-third-requires
-    review-requires-3
-    returns
+    (tie.spec (λ c κs. search needs) (λ c κs. search needs) (λ c κs. search needs) (λ c κs. search needs) returns
     returns-2)

@@ -15,20 +15,11 @@ propagate-requires c κs =
     let p = w .pre in
     asked (p .sized) (p .within) Propagate (c .before .enum-told .given .1)
 
-enum-told-2 : tie.Need-enum-told-2
-enum-told-2 c = search needs
-
 rotate-requires : tie.Need-rotate-requires
 rotate-requires c κs =
     let w = c .before .before .before .before in
     let p = w .pre in
     asked (p .sized) (p .within) Lean (c .before .enum-told2 .given .1)
-
-turned-requires : tie.Need-turned-requires
-turned-requires c κs = search needs
-
-enum-told-3 : tie.Need-enum-told-3
-enum-told-3 c = search needs
 
 rotate-requires-2 : tie.Need-rotate-requires-2
 rotate-requires-2 c κs =
@@ -36,31 +27,16 @@ rotate-requires-2 c κs =
     let p = w .pre in
     asked (p .sized) (p .within) Even (c .before .enum-told3 .given .1)
 
-turned-requires-2 : tie.Need-turned-requires-2
-turned-requires-2 c κs = search needs
-
-enum-told-4 : tie.Need-enum-told-4
-enum-told-4 c = search needs
-
 rotate-twice-requires : tie.Need-rotate-twice-requires
 rotate-twice-requires c κs =
     let w = c .before .before .before .before in
     let p = w .pre in
     asked (p .sized) (p .within) Double (c .before .enum-told4 .given .1)
 
-turned-twice-requires : tie.Need-turned-twice-requires
-turned-twice-requires c κs = search needs
-
-same-length : tie.Need-same-length
-same-length c = search needs
-
 returns : tie.Need-returns
 returns c =
     let a = c .before .before .before .before in
     acted-alone (a .before .before .before .pre) (a .enum-told .given .1) (c .before .before .propagate .ensures)
-
-same-length-2 : tie.Need-same-length-2
-same-length-2 c = search needs
 
 returns-2 : tie.Need-returns-2
 returns-2 c =
@@ -69,18 +45,12 @@ returns-2 c =
     let p = a .before .before .before .pre in
     acted-noted p Lean (a .enum-told2 .given .1) (w .rotate .ensures) (c .turned .ensures)
 
-same-length-3 : tie.Need-same-length-3
-same-length-3 c = search needs
-
 returns-3 : tie.Need-returns-3
 returns-3 c =
     let w = c .before .before .before .before in
     let a = w .before .before in
     let p = a .before .before .before .pre in
     acted-noted p Even (a .enum-told3 .given .1) (w .rotate2 .ensures) (c .turned2 .ensures)
-
-same-length-4 : tie.Need-same-length-4
-same-length-4 c = search needs
 
 returns-4 : tie.Need-returns-4
 returns-4 c =
@@ -92,23 +62,7 @@ returns-4 c =
 pub act-and-note-spec : {M : Type 1} → statement M
 act-and-note-spec =
     tie.close
-    (tie.spec
-    enum-told
-    propagate-requires
-    enum-told-2
-    rotate-requires
-    turned-requires
-    enum-told-3
-    rotate-requires-2
-    turned-requires-2
-    enum-told-4
-    rotate-twice-requires
-    turned-twice-requires
-    same-length
-    returns
-    same-length-2
-    returns-2
-    same-length-3
-    returns-3
-    same-length-4
-    returns-4)
+    (tie.spec enum-told propagate-requires (λ c. search needs) rotate-requires (λ c κs. search needs)
+    (λ c. search needs) rotate-requires-2 (λ c κs. search needs) (λ c. search needs) rotate-twice-requires
+    (λ c κs. search needs) (λ c. search needs) returns (λ c. search needs) returns-2 (λ c. search needs) returns-3
+    (λ c. search needs) returns-4)

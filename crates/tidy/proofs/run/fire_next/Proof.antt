@@ -38,9 +38,6 @@ review-requires-2 c κs =
     at-upper (b .before .before .before .before .before .pre) (b .before .before .above .ensures)
     (b .above2 .ensures) (a .act-and-note .ensures) (w .review-nodes .ensures) (c .before .before .review .ensures)
 
-same-length : tie.Need-same-length
-same-length c = search needs
-
 returns : tie.Need-returns
 returns c =
     let w = c .before .before .before .before .before .before in
@@ -54,12 +51,5 @@ returns c =
 pub fire-next-spec : {M : Type 1} → statement M
 fire-next-spec =
     tie.close
-    (tie.spec
-    above-requires
-    above-requires-2
-    act-and-note-requires
-    review-nodes-requires
-    review-requires
-    review-requires-2
-    same-length
-    returns)
+    (tie.spec above-requires above-requires-2 act-and-note-requires review-nodes-requires review-requires
+    review-requires-2 (λ c. search needs) returns)

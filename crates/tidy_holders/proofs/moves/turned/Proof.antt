@@ -4,20 +4,11 @@ use borrow.Author.Needs.{needs}
 use Rattle.tidy_holders.proofs.moves.turned.Statement.{statement}
 use Rattle.tidy_holders.proofs.moves.turned.Tie as tie
 
-other-requires : tie.Need-other-requires
-other-requires c κs = search needs
-
-note-requires : tie.Need-note-requires
-note-requires c κs = search needs
-
 note-requires-2 : tie.Need-note-requires-2
 note-requires-2 c κs =
     let w = c .before .before .before .before .before in
     let p = w .pre in
     record { room = c .before .note .ensures .room; slot = p .v-most; most = p .u-most }
-
-son-requires : tie.Need-son-requires
-son-requires c κs = search needs
 
 note-requires-3 : tie.Need-note-requires-3
 note-requires-3 c κs =
@@ -38,4 +29,5 @@ returns c =
 pub turned-spec : {M : Type 1} → statement M
 turned-spec =
     tie.close
-    (tie.spec other-requires note-requires note-requires-2 son-requires note-requires-3 returns)
+    (tie.spec (λ c κs. search needs) (λ c κs. search needs) note-requires-2 (λ c κs. search needs) note-requires-3
+    returns)

@@ -6,21 +6,12 @@ use borrow.Author.Needs.{needs}
 use Rattle.tidy_holders.proofs.pass.note_sons.Statement.{statement}
 use Rattle.tidy_holders.proofs.pass.note_sons.Tie as tie
 
-slot-at-requires : tie.Need-slot-at-requires
-slot-at-requires c κs = search needs
-
-son-requires : tie.Need-son-requires
-son-requires c κs = search needs
-
 note-requires : tie.Need-note-requires
 note-requires c κs =
     let w = c .before .before .before .before in
     let p = w .pre in
     let e = c .son .ensures ∙ ap (λ (s : Slot). s .left) (c .before .before .slot-at .ensures) in
     record { room = p .room; slot = rw e (p .left); most = p .most }
-
-son-requires-2 : tie.Need-son-requires-2
-son-requires-2 c κs = search needs
 
 note-requires-2 : tie.Need-note-requires-2
 note-requires-2 c κs =
@@ -38,4 +29,5 @@ returns c =
 pub note-sons-spec : {M : Type 1} → statement M
 note-sons-spec =
     tie.close
-    (tie.spec slot-at-requires son-requires note-requires son-requires-2 note-requires-2 returns)
+    (tie.spec (λ c κs. search needs) (λ c κs. search needs) note-requires (λ c κs. search needs) note-requires-2
+    returns)

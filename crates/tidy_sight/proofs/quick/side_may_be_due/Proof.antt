@@ -9,26 +9,11 @@ use borrow.Author.Needs.{needs}
 use Rattle.tidy_sight.proofs.quick.side_may_be_due.Statement.{statement}
 use Rattle.tidy_sight.proofs.quick.side_may_be_due.Tie as tie
 
-son-requires : tie.Need-son-requires
-son-requires c κs = search needs
-
-seen-requires : tie.Need-seen-requires
-seen-requires c κs = search needs
-
 slot-at-requires : tie.Need-slot-at-requires
 slot-at-requires c κs =
     let a = c .before .before .before .before in
     let k = named (a .args .c) _ (c .before .if1 .taken) in
     in-table _ (a .pre) (k .0) (k .1)
-
-heavy-requires : tie.Need-heavy-requires
-heavy-requires c κs = search needs
-
-seen-requires-2 : tie.Need-seen-requires-2
-seen-requires-2 c κs = search needs
-
-reliable-requires : tie.Need-reliable-requires
-reliable-requires c κs = search needs
 
 returns : tie.Need-returns
 returns c =
@@ -45,12 +30,5 @@ returns-2 c = simp (sym (c .before .son .ensures), c .if1 .left)
 pub side-may-be-due-spec : {M : Type 1} → statement M
 side-may-be-due-spec =
     tie.close
-    (tie.spec
-    son-requires
-    seen-requires
-    slot-at-requires
-    heavy-requires
-    seen-requires-2
-    reliable-requires
-    returns
-    returns-2)
+    (tie.spec (λ c κs. search needs) (λ c κs. search needs) slot-at-requires (λ c κs. search needs)
+    (λ c κs. search needs) (λ c κs. search needs) returns returns-2)

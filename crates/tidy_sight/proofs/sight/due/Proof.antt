@@ -8,23 +8,11 @@ use borrow.Author.Needs.{needs}
 use Rattle.tidy_sight.proofs.sight.due.Statement.{statement}
 use Rattle.tidy_sight.proofs.sight.due.Tie as tie
 
-has-third-requires : tie.Need-has-third-requires
-has-third-requires c κs = search needs
-
 slot-at-requires : tie.Need-slot-at-requires
 slot-at-requires c κs =
     let a = c .before .before .before .before .before .before .before in
     let k = named (a .args .c) _ (c .if3 .taken) in
     in-table _ (a .pre) (k .0) (k .1)
-
-seen-requires : tie.Need-seen-requires
-seen-requires c κs = search needs
-
-allowed-requires : tie.Need-allowed-requires
-allowed-requires c κs = search needs
-
-allowed-requires-2 : tie.Need-allowed-requires-2
-allowed-requires-2 c κs = search needs
 
 returns : tie.Need-returns
 returns c =
@@ -55,13 +43,5 @@ returns-4 c = simp (c .if1 .left)
 pub due-spec : {M : Type 1} → statement M
 due-spec =
     tie.close
-    (tie.spec
-    has-third-requires
-    slot-at-requires
-    seen-requires
-    allowed-requires
-    allowed-requires-2
-    returns
-    returns-2
-    returns-3
-    returns-4)
+    (tie.spec (λ c κs. search needs) slot-at-requires (λ c κs. search needs) (λ c κs. search needs)
+    (λ c κs. search needs) returns returns-2 returns-3 returns-4)

@@ -11,26 +11,11 @@ use borrow.Author.Needs.{needs}
 use Rattle.tidy_sight.proofs.sight.look.Statement.{statement}
 use Rattle.tidy_sight.proofs.sight.look.Tie as tie
 
-son-requires : tie.Need-son-requires
-son-requires c κs = search needs
-
-seen-requires : tie.Need-seen-requires
-seen-requires c κs = search needs
-
 slot-at-requires : tie.Need-slot-at-requires
 slot-at-requires c κs =
     let a = c .before .before .before .before .before in
     let k = named (a .args .c) _ (and-r (not (eqb (a .args .s .state) 0)) _ (c .if1 .taken)) in
     in-table _ (a .pre) (k .0) (k .1)
-
-seen-requires-2 : tie.Need-seen-requires-2
-seen-requires-2 c κs = search needs
-
-other-requires : tie.Need-other-requires
-other-requires c κs = search needs
-
-son-requires-2 : tie.Need-son-requires-2
-son-requires-2 c κs = search needs
 
 returns : tie.Need-returns
 returns c =
@@ -47,12 +32,5 @@ returns-2 c = simp (sym (c .before .before .before .son .ensures), sym (c .befor
 pub look-spec : {M : Type 1} → statement M
 look-spec =
     tie.close
-    (tie.spec
-    son-requires
-    seen-requires
-    slot-at-requires
-    seen-requires-2
-    other-requires
-    son-requires-2
-    returns
-    returns-2)
+    (tie.spec (λ c κs. search needs) (λ c κs. search needs) slot-at-requires (λ c κs. search needs)
+    (λ c κs. search needs) (λ c κs. search needs) returns returns-2)

@@ -6,20 +6,8 @@ use borrow.Author.Needs.{needs}
 use Rattle.tidy_sight.proofs.sight.nodes.Statement.{statement}
 use Rattle.tidy_sight.proofs.sight.nodes.Tie as tie
 
-son-requires : tie.Need-son-requires
-son-requires c κs = search needs
-
 slot-at-requires : tie.Need-slot-at-requires
 slot-at-requires c κs = rw (c .son .ensures) (u-there (c .before .before .pre))
-
-has-third-requires : tie.Need-has-third-requires
-has-third-requires c κs = search needs
-
-other-requires : tie.Need-other-requires
-other-requires c κs = search needs
-
-son-requires-2 : tie.Need-son-requires-2
-son-requires-2 c κs = search needs
 
 slot-at-requires-2 : tie.Need-slot-at-requires-2
 slot-at-requires-2 c κs =
@@ -48,12 +36,5 @@ returns-2 c =
 pub nodes-spec : {M : Type 1} → statement M
 nodes-spec =
     tie.close
-    (tie.spec
-    son-requires
-    slot-at-requires
-    has-third-requires
-    other-requires
-    son-requires-2
-    slot-at-requires-2
-    returns
-    returns-2)
+    (tie.spec (λ c κs. search needs) slot-at-requires (λ c κs. search needs) (λ c κs. search needs)
+    (λ c κs. search needs) slot-at-requires-2 returns returns-2)

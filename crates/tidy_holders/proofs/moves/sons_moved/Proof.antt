@@ -1,22 +1,13 @@
--- `tidy_holders::moves::twice_sons` meets its contract. Assumes nothing.
+-- `tidy_holders::moves::sons_moved` meets its contract. Assumes nothing.
 use Rattle.tidy_holders.proofs.Noting.Noted.{low-noted}
 use borrow.Author.Needs.{needs}
-use Rattle.tidy_holders.proofs.moves.twice_sons.Statement.{statement}
-use Rattle.tidy_holders.proofs.moves.twice_sons.Tie as tie
-
-other-requires : tie.Need-other-requires
-other-requires c κs = search needs
-
-son-requires : tie.Need-son-requires
-son-requires c κs = search needs
+use Rattle.tidy_holders.proofs.moves.sons_moved.Statement.{statement}
+use Rattle.tidy_holders.proofs.moves.sons_moved.Tie as tie
 
 note-requires : tie.Need-note-requires
 note-requires c κs =
     let p = c .before .before .before .pre in
     record { room = p .room; slot = rw (c .son .ensures) (p .w-near); most = p .u-most }
-
-son-requires-2 : tie.Need-son-requires-2
-son-requires-2 c κs = search needs
 
 note-requires-2 : tie.Need-note-requires-2
 note-requires-2 c κs =
@@ -34,7 +25,8 @@ returns c =
     low-noted (w .before .before .before .pre) (w .before .before .other .ensures) (w .son .ensures)
     (c .before .son2 .ensures) (c .before .before .before .note .ensures) (c .note2 .ensures)
 
-pub twice-sons-spec : {M : Type 1} → statement M
-twice-sons-spec =
+pub sons-moved-spec : {M : Type 1} → statement M
+sons-moved-spec =
     tie.close
-    (tie.spec other-requires son-requires note-requires son-requires-2 note-requires-2 returns)
+    (tie.spec (λ c κs. search needs) (λ c κs. search needs) note-requires (λ c κs. search needs) note-requires-2
+    returns)

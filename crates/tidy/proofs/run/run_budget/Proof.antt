@@ -1,10 +1,10 @@
--- `tidy::run::run` meets its contract. Assumes nothing.
+-- `tidy::run::run_budget` meets its contract. Assumes nothing.
 use Prim.Native.Nat.{_-_}
 use native.Mathlib.Omega.{arith}
 use borrow.Author.Needs.{needs}
 use Rattle.tidy.proofs.Going.{UnderWay, going-start, going-none, going-spent, going-fire, going-on}
-use Rattle.tidy.proofs.run.run.Statement.{statement}
-use Rattle.tidy.proofs.run.run.Tie as tie
+use Rattle.tidy.proofs.run.run_budget.Statement.{statement}
+use Rattle.tidy.proofs.run.run_budget.Tie as tie
 
 abbrev Inv-loop : tie.InvT-loop
 Inv-loop t₀ c h₀ m₀ budget made₀ t h m made = UnderWay t₀ c budget t h m made
@@ -65,8 +65,8 @@ returns-2 c =
     let at = rw (c .before .before .r .given .1) at (c .before .before .before .before .next .ensures) in
     going-spent (c .before .before .before .before .before .before .before .before .loop .inv) at (c .if1 .taken)
 
-pub run-spec : {M : Type 1} → statement M
-run-spec =
+pub run-budget-spec : {M : Type 1} → statement M
+run-budget-spec =
     tie.close
     (tie.spec
     Inv-loop

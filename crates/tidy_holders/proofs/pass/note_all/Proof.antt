@@ -1,12 +1,12 @@
--- `tidy_holders::pass::fill` meets its contract. Assumes nothing.
+-- `tidy_holders::pass::note_all` meets its contract. Assumes nothing.
 use Prim.Native.Nat.{_+_, _-_}
 use native.Mathlib.Omega.{arith}
 use denote.Ref.{now}
 use Rattle.spelling.proofs.Opened.{headed}
 use Rattle.tidy_holders.proofs.Noting.Filling.{Filling, root-most, filling-start}
 use Rattle.tidy_holders.proofs.Noting.Filling.{filling-sons, filling-on, filling-end}
-use Rattle.tidy_holders.proofs.pass.fill.Statement.{statement}
-use Rattle.tidy_holders.proofs.pass.fill.Tie as tie
+use Rattle.tidy_holders.proofs.pass.note_all.Statement.{statement}
+use Rattle.tidy_holders.proofs.pass.note_all.Tie as tie
 
 abbrev Inv-loop : tie.InvT-loop
 Inv-loop t c h₀ k₀ h k = Filling t c h k
@@ -46,8 +46,8 @@ loop-again c =
 returns : tie.Need-returns Inv-loop μ-loop
 returns c = filling-end (c .before .loop .inv) (c .loop-test .left)
 
-pub fill-spec : {M : Type 1} → statement M
-fill-spec =
+pub note-all-spec : {M : Type 1} → statement M
+note-all-spec =
     tie.close
     (tie.spec
     Inv-loop
