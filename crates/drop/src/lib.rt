@@ -45,7 +45,8 @@ pub fn vacate(t: &mut [u32], slot: usize, count: usize, change: u32) -> Answer
     ensures { λ r. ⌜ Does (settled (withSlot (now (t .entry)) slot zeroSlot) (count - 1) change slot) r (now (t .exit)) ⌝ }
 {
     words::put_slot(t, slot, Slot::zeros());
-    gate::settle(t, count - 1, change, slot)
+    words::put_records(t, count - 1);
+    gate::next_change(t, change, slot)
 }
 
 // A record with at most one son: the son takes its link.

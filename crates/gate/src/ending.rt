@@ -4,7 +4,7 @@ use scope::Answer;
 ghost use Prim.Native.Nat.{_≤_, _<_};
 ghost use Rattle.scope.specs.Numbers.{lastChange};
 ghost use Rattle.spelling.specs.Ready.{Headed};
-ghost use Rattle.gate.specs.Ends.{Does, nextNumbered, settled};
+ghost use Rattle.gate.specs.Ends.{Does, nextNumbered};
 
 // One change more than before.
 pub fn next_change(t: &mut [u32], before: u32, slot: usize) -> Answer
@@ -14,13 +14,4 @@ pub fn next_change(t: &mut [u32], before: u32, slot: usize) -> Answer
     let change = before + 1;
     words::put_change(t, change);
     accept(words::long(change), words::size(slot), 0, 0)
-}
-
-// So many records, and one change more than before.
-pub fn settle(t: &mut [u32], count: usize, before: u32, slot: usize) -> Answer
-    requires { ⌜ Headed (now t) × (count ≤ 4095) × (before < lastChange) ⌝ }
-    ensures { λ r. ⌜ Does (settled (now (t .entry)) count before slot) r (now (t .exit)) ⌝ }
-{
-    words::put_records(t, count);
-    next_change(t, before, slot)
 }

@@ -9,7 +9,6 @@ pub use call::enter;
 pub use call::refuse;
 pub use call::told;
 pub use ending::next_change;
-pub use ending::settle;
 pub use tests::blank;
 pub use tests::fit;
 pub use tests::header_ok;

@@ -75,7 +75,8 @@ pub fn hang(t: &mut [u32], k: usize, link: Link, new: Slot) -> Answer
     let change = words::change(t);
     words::put_slot(t, k, new);
     words::put_link(t, link, k);
-    gate::settle(t, count + 1, change, k)
+    words::put_records(t, count + 1);
+    gate::next_change(t, change, k)
 }
 
 // post: a new record.

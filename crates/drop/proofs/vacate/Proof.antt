@@ -6,12 +6,13 @@ use Rattle.drop.proofs.vacate.Tie as tie
 
 returns : tie.Need-returns
 returns c =
-    let b = c .before .before .before .before .before .before in
-    simp (sym (b .before .zeros .ensures), sym (b .put-slot .ensures))
-    (c .before .before .settle .ensures)
+    let n = c .before .before .before .before .before .before in
+    let b = n .before .before .before .before in
+    simp (sym (b .before .zeros .ensures), sym (b .put-slot .ensures), sym (n .put-records .ensures))
+    (c .before .before .next-change .ensures)
 
 pub vacate-spec : {M : Type 1} → statement M
 vacate-spec =
     tie.close
     (tie.spec (λ c κs. search needs) (λ c κs. search needs) (λ c. search needs) (λ c κs. search needs)
-    (λ c. search needs) returns)
+    (λ c κs. search needs) (λ c. search needs) returns)

@@ -1,4 +1,5 @@
 -- `post::hang` meets its contract. Assumes nothing.
+use mathlib.Core.Path.{sym}
 use native.Mathlib.Omega.{arith}
 use borrow.Author.Needs.{needs}
 use Rattle.spelling.proofs.Laws.{link-lt}
@@ -14,13 +15,15 @@ put-link-requires c κs =
 
 returns : tie.Need-returns
 returns c =
-    let b = c .before .before .before .before .before .before in
+    let n = c .before .before .before .before .before .before in
+    let b = n .before .before .before .before in
     let r = b .before .before .before .before .before .before in
     hung-by _ _ _ _ (r .before .before .records .ensures) (r .change .ensures)
-    (b .before .before .before .before .put-slot .ensures) (b .put-link .ensures) (c .before .before .settle .ensures)
+    (b .before .before .before .before .put-slot .ensures) (b .put-link .ensures)
+    (simp (sym (n .put-records .ensures)) (c .before .before .next-change .ensures))
 
 pub hang-spec : {M : Type 1} → statement M
 hang-spec =
     tie.close
     (tie.spec (λ c κs. search needs) (λ c κs. search needs) (λ c κs. search needs) put-link-requires
-    (λ c. search needs) (λ c κs. search needs) (λ c. search needs) returns)
+    (λ c. search needs) (λ c κs. search needs) (λ c κs. search needs) (λ c. search needs) returns)
