@@ -16,36 +16,61 @@ abbrev μ-loop : tie.MeasureT-loop
 loop-holds : tie.Need-loop-holds Inv-loop μ-loop
 loop-holds c = place-start _ _
 
-mul-if1 : tie.Need-mul-if1 Inv-loop μ-loop
-mul-if1 c = search needs
+add-loop : tie.Need-add-loop Inv-loop μ-loop
+add-loop c = omega (arith, c .before .pre .most, c .loop .inv .seeking .last)
 
-shared-slice-read-if1 : tie.Need-shared-slice-read-if1 Inv-loop μ-loop
-shared-slice-read-if1 c = search needs
-
-add-result : tie.Need-add-result Inv-loop μ-loop
-add-result c = search needs
+add-next : tie.Need-add-next Inv-loop μ-loop
+add-next c = omega (arith, c .before .before .pre .most, c .before .loop .inv .seeking .last)
 
 returns : tie.Need-returns Inv-loop μ-loop
 returns c =
     let l = c .before .before .before in
-    place-here (l .before .pre) (l .loop .inv) (c .before .before .loop-test .taken) (c .if1 .taken)
+    place-here (l .before .pre) (l .loop .inv) (omega (arith, c .before .before .loop-test .taken)) (c .if1 .taken)
+
+-- the first of the two slots is taken
+returns-2 : tie.Need-returns-2 Inv-loop μ-loop
+returns-2 c =
+    let h = c .before .before .before .before .loop-test .taken in
+    let l = c .before .before .before .before .before in
+    let p = l .before .pre in
+    let on = place-on p (l .loop .inv) (omega (arith, h)) (c .before .before .if1 .left) in
+    place-here p on h (c .if2 .taken)
 
 add-b : tie.Need-add-b Inv-loop μ-loop
-add-b c = omega (arith, c .before .before .before .before .pre)
+add-b c =
+    let l = c .before .before .before .before .before in
+    omega (arith, l .before .pre .most, l .loop .inv .seeking .last)
 
 loop-less : tie.Need-loop-less Inv-loop μ-loop
-loop-less c = omega arith
+loop-less c = omega (arith, c .before .before .before .before .loop-test .taken)
 
 loop-again : tie.Need-loop-again Inv-loop μ-loop
 loop-again c =
-    let l = c .before .before .before in
-    place-on (l .before .pre) (l .loop .inv) (c .before .before .loop-test .taken) (c .if1 .left)
+    let h = c .before .before .before .before .loop-test .taken in
+    let l = c .before .before .before .before .before in
+    let p = l .before .pre in
+    let on = place-on p (l .loop .inv) (omega (arith, h)) (c .before .before .if1 .left) in
+    place-on p on h (c .if2 .left)
 
-returns-2 : tie.Need-returns-2 Inv-loop μ-loop
-returns-2 c = place-end (c .before .before .pre) (c .before .loop .inv) (c .loop-test .left)
+-- at most one slot is left
+returns-3 : tie.Need-returns-3 Inv-loop μ-loop
+returns-3 c =
+    let l = c .before .before .before .before in
+    place-here (l .before .pre) (l .loop .inv) (c .before .before .if3 .taken) (c .if4 .taken)
+
+returns-4 : tie.Need-returns-4 Inv-loop μ-loop
+returns-4 c =
+    let l = c .before .before .before .before in
+    let p = l .before .pre in
+    place-end p (place-on p (l .loop .inv) (c .before .before .if3 .taken) (c .if4 .left))
+    (c .before .before .before .loop-test .left)
+
+returns-5 : tie.Need-returns-5 Inv-loop μ-loop
+returns-5 c = let l = c .before .before in place-end (l .before .pre) (l .loop .inv) (c .if3 .left)
 
 pub free-slot-spec : {M : Type 1} → statement M
 free-slot-spec =
     tie.close
-    (tie.spec Inv-loop μ-loop loop-holds mul-if1 shared-slice-read-if1 add-result returns add-b loop-less loop-again
-    returns-2)
+    (tie.spec Inv-loop μ-loop loop-holds add-loop add-next (λ c. search needs) (λ c. search needs)
+    (λ c. search needs) returns (λ c. search needs) (λ c. search needs) (λ c. search needs) returns-2 add-b loop-less
+    loop-again (λ c. search needs) (λ c. search needs) (λ c. search needs) returns-3 returns-4 returns-5)
