@@ -1,7 +1,7 @@
 // How an accepted call ends: the header's numbers are written, and the answer names a slot.
 use crate::call::accept;
 use scope::Answer;
-ghost use Prim.Native.Nat.{_≤_, _<_};
+ghost use Prim.Native.Nat.{_<_};
 ghost use Rattle.scope.specs.Numbers.{lastChange};
 ghost use Rattle.spelling.specs.Ready.{Headed};
 ghost use Rattle.gate.specs.Ends.{Does, nextNumbered};

@@ -39,7 +39,7 @@ damage =
     -- find: the ring is walked until the slots are spent; what lies on the way is found
     ∷ row (fives (Find 40 ∷ Find 30 ∷ Find 50 ∷ []) ring) (0 ∷ 6 ∷ 9 ∷ 1 ∷ 1 ∷ 3 ∷ 0 ∷ 0 ∷ 0 ∷ 0 ∷ 5 ∷ 0 ∷ 0 ∷ 0 ∷ 0 ∷ [])
     ∷ row (codes (Find 40 ∷ Find 20 ∷ Find 30 ∷ []) unfit) (0 ∷ 3 ∷ 3 ∷ [])
-    -- post: a free slot that is not eight zeros, a count that is already full, no free slot whatever the count
+    -- post: a free slot that is not blank, a count that is already full, no free slot whatever the count
     ∷ row (codes (Post 50 1 1 ∷ []) (stale 1 0)) (0 ∷ [])
     ∷ row (codes (Post 50 1 1 ∷ []) (stale 1 77)) (3 ∷ [])
     ∷ row (codes (Post 50 1 1 ∷ []) (stale 2 0)) (3 ∷ [])

@@ -34,7 +34,7 @@ treeOf t c (suc deep) x =
 abbrev pub rootTree : List ℕ → ℕ → Option Tree
 rootTree t c = treeOf t c c (word t rootWord)
 
--- slot k is reached once, or it is not reached and is eight zeros
+-- slot k is reached once, or it is not reached and is blank
 unfoldable pub slotOk : List ℕ → Tree → ℕ → Bool
 slotOk t T k = eqb (times k T) 1 || (eqb (times k T) 0 && blankSlot (slotAt t k))
 

@@ -78,7 +78,7 @@ spoiled = mostSlots + 1
 unfoldable pub scanOf : ℕ → Scan
 scanOf n = cond (eqb n spoiled) Damaged (Left n)
 
--- slot k is marked, or eight zeros
+-- slot k is marked, or blank
 unfoldable pub settledAt : List ℕ → List ℕ → ℕ → Bool
 settledAt t m k = eqb (bitAt m k) 1 || blankSlot (slotAt t k)
 

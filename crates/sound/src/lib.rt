@@ -120,7 +120,7 @@ pub fn from_root(t: &[u32], m: &mut [u64; 64], c: usize, more: usize, x: usize) 
     }
 }
 
-// Whether slot k was reached, or is eight zeros.
+// Whether slot k was reached, or is blank.
 pub fn settled(t: &[u32], m: &[u64; 64], k: usize) -> bool
     requires { ⌜ InTable (now t) k × (k ≤ mostSlots) ⌝ }
     ensures { λ r. ⌜ r ≡ settledAt (now (t .entry)) (now (m .entry)) k ⌝ }
@@ -132,7 +132,7 @@ pub fn settled(t: &[u32], m: &[u64; 64], k: usize) -> bool
     }
 }
 
-// Whether every slot that was not reached is eight zeros; a word of marks with all on is passed over at once.
+// Whether every slot that was not reached is blank; a word of marks with all on is passed over at once.
 pub fn rest_blank(t: &[u32], m: &[u64; 64], c: usize) -> bool
     requires { ⌜ Sized (now t) c ⌝ }
     ensures { λ r. ⌜ RestIs (now (t .entry)) (now (m .entry)) c r ⌝ }

@@ -1,12 +1,19 @@
 -- A slot is its words, and what is written into it lies in it: the laws that name every word of a slot. Assumes nothing.
 use Prim.Native.Nat.{ℕ, _+_, _≤_, _<_}
 use mathlib.Core.Path.{_≡_, refl, subst, _∙_}
+use mathlib.Core.Bool.{Bool, true, _&&_}
 use mathlib.Core.List.{List, [], _∷_}
 use native.Mathlib.Nat.{add-zero}
 use native.Mathlib.Omega.{arith}
 use lib.ListN.{length, set, length-set}
+use lib.Dec.{eqb}
+use borrow.Author.Tests.{eqb-true}
 use lib.Seq.{getD-set-same, getD-set-other}
-use Rattle.scope.specs.Table.{slotWords, word, base, slotAt, slotOf, withSlot, slotWrites, Write, put, written}
+use Rattle.scope.specs.Table.{slotWords, word, base, slotAt, slotOf, withSlot, slotWrites, son, Write, put, written}
+use Rattle.scope.proofs.Bools.{and-l, and-r}
+use Rattle.scope.specs.Fit.{blankSlot}
+use Rattle.scope.specs.declared.side.Side.{Side}
+use Rattle.scope.specs.declared.side.Side.the-variants.{Left, Right}
 use Rattle.scope.specs.declared.slot.Slot.{Slot}
 use Rattle.spelling.specs.Ready.{Sized}
 
@@ -90,3 +97,22 @@ module _ {t : List ℕ} {c : ℕ} (z : Sized t c) (k : ℕ) (s : Slot) (first : 
         righth = kept t6 (b + 6) (s .righth) w8 (simp length-set (omega arith)) (omega arith) i;
         last = kept t7 (b + 7) (s .last) [] (simp length-set (omega arith)) tt i;
       }
+
+-- a blank slot begins with a zero
+pub blank-state : (x : Slot) → blankSlot x ≡ true → eqb (x .state) 0 ≡ true
+unfolding blankSlot
+blank-state x e =
+    and-l _ _ (and-l _ _ (and-l _ _ (and-l _ _ (and-l _ _ (and-l _ _ (and-l _ _ e))))))
+
+-- and holds no slot
+two-parts : (a l r x y z : Bool) → (a && l && r && x && y && z) ≡ true → (l ≡ true) × (r ≡ true)
+two-parts a l r x y z e =
+    let f = and-l (a && l && r) x (and-l (a && l && r && x) y (and-l (a && l && r && x && y) z e)) in
+    (and-r a l (and-l (a && l) r f), and-r (a && l) r f)
+
+pub blank-son : (x : Slot) → blankSlot x ≡ true → (s : Side) → son x s ≡ 0
+unfolding blankSlot
+blank-son x e =
+    let h = two-parts (eqb (x .state) 0 && eqb (x .key) 0 && eqb (x .pieces) 0) (eqb (x .left) 0) (eqb (x .right) 0)
+    (eqb (x .lefth) 0) (eqb (x .righth) 0) (eqb (x .last) 0) e in
+    λ s. elim s [ Left ↦ eqb-true (x .left) 0 (h .0) | Right ↦ eqb-true (x .right) 0 (h .1) ]

@@ -5,22 +5,22 @@ use mathlib.Core.Bool.{true, _&&_}
 use mathlib.Core.Option.{Option, none, some}
 use mathlib.Core.List.{List}
 use native.Mathlib.Omega.{arith}
-use lib.Dec.{leb, eqb}
+use lib.Dec.{leb}
 use borrow.Author.Tests.{le-leb, ne-eqb}
-use Rattle.scope.proofs.Bools.{and-l, and-r}
+use Rattle.scope.proofs.Bools.{and-r}
 use Rattle.scope.specs.Numbers.{rootLink, mostHeight}
 use Rattle.scope.specs.Table.{word, rootWord, countWord, zeroWord, slotAt, linkAt}
-use Rattle.scope.specs.Fit.{headerOk, blankSlot}
+use Rattle.scope.specs.Fit.{headerOk}
 use Rattle.scope.specs.Tree.{Tree, times, inOrder}
 use Rattle.scope.specs.Sound.{Sound}
 use Rattle.scope.specs.Fire.{aim}
 use Rattle.scope.specs.declared.rule.Rule.{Rule}
 use Rattle.scope.specs.declared.side.Side.{Side}
 use Rattle.scope.specs.declared.side.Link.{Link}
-use Rattle.scope.specs.declared.slot.Slot.{Slot}
 use Rattle.scope.specs.declared.answer.Refusal.the-variants.{GuardFails}
 use Rattle.scope.specs.declared.outcome.Firing.{Firing}
 use Rattle.scope.specs.declared.outcome.Firing.the-variants.{Refuse, Fire}
+use Rattle.spelling.proofs.Slots.{blank-state}
 use Rattle.spelling.proofs.Laws.{header-root, header-count}
 use Rattle.spelling.specs.Whole.{Whole}
 use Rattle.spelling.proofs.Frame.{none-at-0}
@@ -42,12 +42,6 @@ unfolding headerOk
 new-header t t′ c e r n z =
     let zero = and-r (leb (word t rootWord) c && leb (word t countWord) c) _ e in
     rw (le-leb (word t′ rootWord) c r, le-leb (word t′ countWord) c n, z, zero) refl
-
--- eight zeros begin with one
-pub blank-state : (x : Slot) → blankSlot x ≡ true → eqb (x .state) 0 ≡ true
-unfolding blankSlot
-blank-state x e =
-    and-l _ _ (and-l _ _ (and-l _ _ (and-l _ _ (and-l _ _ (and-l _ _ (and-l _ _ e))))))
 
 module _ {t : List ℕ} {c : ℕ} (w : Whole t c) where
   abbrev T : Tree

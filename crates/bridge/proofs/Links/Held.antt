@@ -1,23 +1,18 @@
 -- On a sound table every record hangs at one link, and no two links hold the same slot. Assumes nothing.
 use Prim.Native.Nat.{ℕ, _≤_}
 use mathlib.Core.Path.{_≡_, refl, sym, _∙_, ap}
-use mathlib.Core.Bool.{Bool, true, _&&_}
 use mathlib.Core.Option.{some}
 use mathlib.Core.List.{List, [], _∷_}
 use native.Mathlib.Omega.{arith}
 use native.Mathlib.Decide.{decLe, ℕ-discrete}
-use lib.Dec.{eqb}
 use borrow.Author.Tests.{eqb-true}
-use Rattle.scope.proofs.Bools.{and-l, and-r}
 use Rattle.scope.specs.Numbers.{rootLink}
-use Rattle.scope.specs.Table.{word, slotAt, son, linkAt}
-use Rattle.scope.specs.Fit.{blankSlot}
+use Rattle.scope.specs.Table.{word, slotAt, linkAt}
 use Rattle.scope.specs.Tree.{Batch, Tree, leaf, node, times}
 use Rattle.scope.specs.Sound.{Spells}
 use Rattle.scope.specs.declared.side.Side.{Side}
-use Rattle.scope.specs.declared.side.Side.the-variants.{Left, Right}
 use Rattle.scope.specs.declared.side.Link.{Link}
-use Rattle.scope.specs.declared.slot.Slot.{Slot}
+use Rattle.spelling.proofs.Slots.{blank-state, blank-son}
 use Rattle.spelling.specs.Whole.{Whole}
 use Rattle.spelling.proofs.Frame.{none-at-0}
 use Rattle.spelling.proofs.Once.{once-all}
@@ -30,7 +25,8 @@ use Rattle.bridge.proofs.Links.Looks.{look}
 use Rattle.bridge.proofs.Links.Ways.{leads, leads-holder}
 use Rattle.spelling.proofs.Frame.{same-none}
 use Rattle.bridge.proofs.Firing.Along.{hangs-along}
-use Rattle.bridge.proofs.Firing.Fires.{blank-state, hangs-root}
+use Rattle.bridge.proofs.Firing.Fires.{hangs-root}
+use Rattle.spelling.proofs.Slots.{blank-state}
 use Rattle.bridge.proofs.Firing.Calls.{LinkIn}
 
 -- of the links in a tree only the root's is held by slot 0
@@ -54,19 +50,6 @@ root-only t c (s ∷ way) T S p e z =
       none-at-0 t c (word t (linkAt down)) near near-spells,
     )))
     p
-
--- eight zeros hold no slot
-both : (a l r x y z : Bool) → (a && l && r && x && y && z) ≡ true → (l ≡ true) × (r ≡ true)
-both a l r x y z e =
-    let f = and-l (a && l && r) x (and-l (a && l && r && x) y (and-l (a && l && r && x && y) z e)) in
-    (and-r a l (and-l (a && l) r f), and-r (a && l) r f)
-
-blank-son : (x : Slot) → blankSlot x ≡ true → (s : Side) → son x s ≡ 0
-unfolding blankSlot
-blank-son x e =
-    let h = both (eqb (x .state) 0 && eqb (x .key) 0 && eqb (x .pieces) 0) (eqb (x .left) 0) (eqb (x .right) 0)
-    (eqb (x .lefth) 0) (eqb (x .righth) 0) (eqb (x .last) 0) e in
-    λ s. elim s [ Left ↦ eqb-true (x .left) 0 (h .0) | Right ↦ eqb-true (x .right) 0 (h .1) ]
 
 -- the top of what a link holds is the slot there
 top-slot : (t : List ℕ) (c x : ℕ) (d : Batch) (a b : ℕ) (l r : Tree) → Spells t c x (node d a b l r) → d .slot ≡ x

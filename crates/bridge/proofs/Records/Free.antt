@@ -17,7 +17,7 @@ use Rattle.spelling.specs.Whole.{Whole}
 use Rattle.bridge.proofs.Links.Outside.{same-one}
 use Rattle.spelling.proofs.Frame.{same-none}
 use Rattle.bridge.proofs.Firing.Along.{some-state}
-use Rattle.bridge.proofs.Firing.Fires.{blank-state}
+use Rattle.spelling.proofs.Slots.{blank-state}
 
 -- a slot that a tree has is fit
 pub reached-fit : (t : List ℕ) (c k x : ℕ) (T : Tree) → Spells t c x T → 1 ≤ times k T → fitSlot c (slotAt t k) ≡ true

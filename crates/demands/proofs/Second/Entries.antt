@@ -13,7 +13,7 @@ use Rattle.scope.specs.Tree.{Batch, Tree, leaf, node, times, Ordered}
 use Rattle.scope.specs.Sound.{Spells, batchAt, treeIn}
 use Rattle.spelling.specs.Whole.{Whole}
 use Rattle.spelling.proofs.Frame.{same-none}
-use Rattle.bridge.proofs.Firing.Fires.{blank-state}
+use Rattle.spelling.proofs.Slots.{blank-state}
 use Rattle.ledger.specs.Entries.{Entry, lookup}
 use Rattle.ledger.specs.Sorted.{Sorted}
 use Rattle.ledger.specs.OfTree.{entryOf, entriesOf}
