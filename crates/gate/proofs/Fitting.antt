@@ -1,5 +1,5 @@
 -- The tests that `gate` takes together say what the tests one by one say. Assumes nothing.
-use Prim.Native.Nat.{ℕ, _+_, _*_, _≤_, _<_}
+use Prim.Native.Nat.{ℕ, _+_, _*_, _-_, _^_, _≤_, _<_}
 use mathlib.Core.Path.{_≡_, refl, sym, _∙_}
 use mathlib.Core.Bool.{Bool, true, false, not, _&&_, _||_}
 use native.Mathlib.Omega.{arith}
@@ -7,7 +7,7 @@ use native.Mathlib.Decide.{ℕ-discrete}
 use lib.Dec.{leb, eqb}
 use lib.Bits.{bitOr, or-lt, or-add-and, and-le-l, and-le-r}
 use borrow.Author.Tests.{leb-true, le-leb, eqb-true, eq-eqb, ne-eqb}
-use Rattle.scope.specs.Numbers.{mostHeight}
+use Rattle.scope.specs.Numbers.{mostHeight, mostSlots}
 use Rattle.scope.specs.Fit.{stateOk, piecesOk, linkOk, tailOk, tailFits, fitSlot}
 use Rattle.scope.specs.declared.slot.Slot.{Slot}
 use Rattle.scope.proofs.Bools.{and-l, and-r, both, never}
@@ -55,23 +55,36 @@ beside link h =
           (λ p. let q = leb-true h mostHeight (and-l (leb h mostHeight) _ p) in le-leb (h + 0) mostHeight (omega arith)))
     ]
 
--- two numbers are below a power of two exactly if their bits together are
-or-within : (a b : ℕ) → leb (bitOr a b) mostHeight ≡ (leb a mostHeight && leb b mostHeight)
-or-within a b =
+-- two numbers are within so many ones exactly if their bits together are
+or-within : (ones most : ℕ) → most + 1 ≡ 2 ^ ones → (a b : ℕ) → leb (bitOr a b) most ≡ (leb a most && leb b most)
+or-within ones most e a b =
     same _ _
-    (λ p. let q = leb-true (bitOr a b) mostHeight p in
-    both (le-leb a mostHeight (omega (arith, or-add-and a b, and-le-r a b)))
-    (le-leb b mostHeight (omega (arith, or-add-and a b, and-le-l a b))))
-    (λ p. let x = leb-true a mostHeight (and-l (leb a mostHeight) (leb b mostHeight) p) in
-    let y = leb-true b mostHeight (and-r (leb a mostHeight) (leb b mostHeight) p) in
-    let z : bitOr a b < 65536 = or-lt 16 a b (omega arith) (omega arith) in
-    le-leb (bitOr a b) mostHeight (omega arith))
+    (λ p. let q = leb-true (bitOr a b) most p in
+    both (le-leb a most (omega (arith, or-add-and a b, and-le-r a b)))
+    (le-leb b most (omega (arith, or-add-and a b, and-le-l a b))))
+    (λ p. let x = leb-true a most (and-l (leb a most) (leb b most) p) in
+    let y = leb-true b most (and-r (leb a most) (leb b most) p) in
+    let z = or-lt ones a b (rw (sym e) (omega (arith, x))) (rw (sym e) (omega (arith, y))) in
+    le-leb (bitOr a b) most (omega (arith, rw (sym e) at z)))
 
 pub registers-together : (s : Slot)
     → leb (bitOr (s .lefth + burdenOf (s .left)) (s .righth + burdenOf (s .right))) mostHeight ≡ registersOk s
 registers-together s =
-    or-within (s .lefth + burdenOf (s .left)) (s .righth + burdenOf (s .right))
+    or-within 16 mostHeight refl (s .lefth + burdenOf (s .left)) (s .righth + burdenOf (s .right))
     ∙ rw (beside (s .left) (s .lefth), beside (s .right) (s .righth)) refl
+
+-- a link is within the slots exactly if, with those that the table lacks, it is within the most
+lacks : (c link : ℕ) → c ≤ mostSlots → leb (link + (mostSlots - c)) mostSlots ≡ leb link c
+lacks c link l =
+    same _ _
+    (λ p. let q = leb-true (link + (mostSlots - c)) mostSlots p in le-leb link c (omega (arith, l, q)))
+    (λ p. let q = leb-true link c p in le-leb (link + (mostSlots - c)) mostSlots (omega (arith, l, q)))
+
+pub links-together : (c : ℕ) (s : Slot) → c ≤ mostSlots
+    → leb (bitOr (s .left + (mostSlots - c)) (s .right + (mostSlots - c))) mostSlots ≡ linksOk c s
+links-together c s l =
+    or-within 12 mostSlots refl (s .left + (mostSlots - c)) (s .right + (mostSlots - c))
+    ∙ rw (lacks c (s .left) l, lacks c (s .right) l) refl
 
 -- the same tests in another order
 regroup : (e z k p l r h i j m : Bool)

@@ -1,11 +1,14 @@
 // The tests of a slot and of the header.
 use scope::Height;
 use scope::Slot;
+use scope::Slots;
 use scope::State;
 use words::records;
 use words::root;
 use words::zero;
 ghost use mathlib.Core.Path.{_≡_};
+ghost use Prim.Native.Nat.{_≤_};
+ghost use Rattle.scope.specs.Numbers.{mostSlots};
 ghost use Rattle.scope.specs.Post.{recordOk};
 ghost use Rattle.scope.specs.Fit.{stateOk, piecesOk, fitSlot, blankSlot, headerOk};
 ghost use Rattle.gate.specs.Parts.{burdenOf, registersOk, endsOk, contentsOk, linksOk};
@@ -61,14 +64,20 @@ pub fn contents_ok(s: Slot) -> bool
     registers_ok(s) && (pieces_ok(s.pieces) && (ends_ok(s) && s.key != 0))
 }
 
-// Both links lead into the table, or nowhere.
+// Both links at once, into the table or nowhere. A link is one of c slots exactly if, with the slots that the table lacks,
+// it is one of the most; and two sums are within the most, which is all ones, exactly if their bits together are.
 pub fn links_ok(c: usize, s: Slot) -> bool
+    requires { ⌜ c ≤ mostSlots ⌝ }
     ensures { λ r. ⌜ r ≡ linksOk c s ⌝ }
 {
-    s.left as usize <= c && s.right as usize <= c
+    let lacking = Slots::MOST - c;
+    let left = s.left as usize + lacking;
+    let right = s.right as usize + lacking;
+    (left | right) <= Slots::MOST
 }
 
 pub fn fit(c: usize, s: Slot) -> bool
+    requires { ⌜ c ≤ mostSlots ⌝ }
     ensures { λ r. ⌜ r ≡ fitSlot c s ⌝ }
 {
     contents_ok(s) && links_ok(c, s)

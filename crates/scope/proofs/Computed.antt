@@ -17,7 +17,8 @@ use Rattle.scope.specs.Sums.{checkAnswer, pick, rankOf, ranked, rankAnsw
 use Rattle.scope.specs.Worth.{negOf, posOf, NEG, POS, BAL, RBAL, worthOf, worthAnswer}
 use Rattle.scope.specs.Rules.{guardAt, highestAt, actionAt}
 use Rattle.scope.specs.Fire.{takeOf, judged, aimW, aimU, aimV, aim, aimed, firePlan, fired, fireOf}
-use Rattle.scope.specs.Tidy.{holdsAt, dueAt, passes, rulesFrom, slotsFrom, nextOf, quiet, linkFrom, linkTo, firedAt, tidyFrom, tidied, tidyOf, rulesFired}
+use Rattle.scope.specs.Tidy.{holdsAt, dueAt, passes, rulesFrom, slotsFrom, nextOf, quiet, linkFrom, linkTo, firedAt}
+use Rattle.scope.specs.Tidy.{tidyFrom, tidied, tidyOf, rulesFired}
 use Rattle.scope.specs.Calls.{answers, after}
 use Rattle.scope.proofs.Script.{Row, rows}
 use Rattle.scope.proofs.Marked.{marked, worked}

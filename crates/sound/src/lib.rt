@@ -20,6 +20,7 @@ pub const PAST_KEYS: u64 = 4294967296;
 
 // Whether a slot is fit and its key lies between two bounds.
 pub fn in_place(c: usize, s: Slot, low: u64, high: u64) -> bool
+    requires { ⌜ c ≤ mostSlots ⌝ }
     ensures { λ r. ⌜ r ≡ inPlace c s low high ⌝ }
 {
     let key = words::long(s.key);

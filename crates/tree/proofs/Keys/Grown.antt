@@ -13,7 +13,8 @@ use Rattle.tree.proofs.Keys.Keyed.{at-times, at-size}
 
 -- a key that is not found is not the top's, and not found on the side where it would be
 pub missing : {X : Type 0} (key : ℕ) (d : Batch) (a b : ℕ) (l r : Tree) → seek key (node d a b l r) ≡ none
-    → (eqb key (d .key) ≡ false → (ltb key (d .key) ≡ true → seek key l ≡ none) → (ltb key (d .key) ≡ false → seek key r ≡ none) → X) → X
+    → (eqb key (d .key) ≡ false → (ltb key (d .key) ≡ true → seek key l ≡ none)
+    → (ltb key (d .key) ≡ false → seek key r ≡ none) → X) → X
 unfolding seek
 missing key d a b l r e k =
     by-bool (eqb key (d .key))
