@@ -4,6 +4,7 @@
 mod agree;
 mod bare;
 mod batches;
+mod before;
 mod clock;
 mod dice;
 mod finds;

@@ -24,6 +24,7 @@ const LEGEND: f64 = 60.0;
 fn colour(name: &str) -> &'static str {
     match name {
         "ours" => "#c0392b",
+        "before" => "#e6b0aa",
         "plain Rust" => "#2c3e50",
         "BTreeMap" => "#d68910",
         "std::map" => "#1e8449",

@@ -1,5 +1,6 @@
 //! A contestant's store of records, whatever it is made of: all are called through pointers of the same shape.
 
+use crate::before::{before, BEFORE};
 use crate::words::{length, Answer};
 use crate::{bare, ours, plain, trees};
 use std::ffi::c_void;
@@ -63,12 +64,14 @@ pub fn tree_peers() -> Vec<Calls> {
     ]
 }
 
-/// Ours and plain Rust, which keep the same promises.
+/// Those that keep the same promises: ours and plain Rust, and an earlier library if one was given.
 pub fn promised() -> Vec<Calls> {
-    vec![
+    let mut all = vec![
         on_words(OURS, ours::ftk_find, Some((ours::ftk_post, ours::ftk_drop))),
         on_words(PLAIN, plain::plain_find, Some((plain::plain_post, plain::plain_drop))),
-    ]
+    ];
+    all.extend(before().map(|b| on_words(BEFORE, b.find, Some((b.post, b.drop)))));
+    all
 }
 
 /// The walks that test nothing.

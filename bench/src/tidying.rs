@@ -1,6 +1,7 @@
 //! tidy: whole runs on tables of several shapes, and small budgets between postings.
 
 use crate::batches::Batch;
+use crate::before::{before, BEFORE};
 use crate::clock::{contest, timed, Best, Turn};
 use crate::stores::{promised, Store, OURS, PLAIN};
 use crate::words::{length, Answer, SLOT_WORDS};
@@ -14,14 +15,17 @@ pub type Tidy = unsafe extern "C" fn(*mut u32, usize, u32, *mut u64);
 pub const RESCAN: &str = "rescan";
 pub const ONE_LOOK: &str = "rescan, one look";
 
-/// Those that tidy: ours, plain Rust with a set of the slots that are due, and plain Rust that scans anew each time.
-pub fn contestants() -> [(&'static str, Tidy); 4] {
-    [
+/// Those that tidy: ours, plain Rust with a set of the slots that are due, and plain Rust that scans anew each time; and
+/// an earlier library if one was given.
+pub fn contestants() -> Vec<(&'static str, Tidy)> {
+    let mut all: Vec<(&'static str, Tidy)> = vec![
         (OURS, ours::ftk_tidy),
         (PLAIN, plain::plain_tidy),
         (RESCAN, plain::plain_rescan),
         (ONE_LOOK, plain::plain_rescan_at_one_look),
-    ]
+    ];
+    all.extend(before().map(|b| (BEFORE, b.tidy)));
+    all
 }
 
 pub fn tidy(call: Tidy, words: &mut [u32], budget: u32) -> Answer {
@@ -85,7 +89,8 @@ pub fn small_budgets(list: &[Batch], budget: u32, share: Duration) -> Run {
     let turns = contestants().into_iter().map(|(name, call)| Turn {
         name,
         go: Box::new(move |round| {
-            let posts = promised()[usize::from(name != OURS)];
+            let named = |who: &str| promised().into_iter().find(|calls| calls.name == who);
+            let posts = named(name).or(named(PLAIN)).expect("plain Rust");
             let mut store = Store::new(posts, list.len());
             let mut firings = 0;
             let seconds = timed(list.len(), || {

@@ -1,6 +1,7 @@
 //! The calls that look at the whole table: check, rank, total and worth.
 
 use crate::batches::Batch;
+use crate::before::{before, BEFORE};
 use crate::clock::{contest, timed, Best, Turn};
 use crate::dice::Dice;
 use crate::stores::{OURS, PLAIN};
@@ -46,12 +47,22 @@ fn contestants(name: &str) -> Vec<(&'static str, Call)> {
     if name == "total" {
         all.push((WALKING, Call::With(plain::plain_total_walking)));
     }
+    all.extend(before().map(|b| {
+        let call = match name {
+            "check" => Call::Alone(b.check),
+            "rank" => Call::With(b.rank),
+            "total" => Call::With(b.total),
+            _ => Call::Alone(b.worth),
+        };
+        (BEFORE, call)
+    }));
     all
 }
 
-/// The numbers of one round: ranks, or keys of records.
-fn numbers(name: &str, batches: &[Batch], round: u64, count: usize) -> Vec<u32> {
-    let mut dice = Dice::new(30_000 + round);
+/// The numbers of a turn: ranks, or keys of records. Every turn has the same, since the best one counts and a call may
+/// take longer for one number than for another.
+fn numbers(name: &str, batches: &[Batch], count: usize) -> Vec<u32> {
+    let mut dice = Dice::new(30_000);
     let pick = |_| {
         let i = dice.below(batches.len());
         if name == "rank" {
@@ -65,15 +76,15 @@ fn numbers(name: &str, batches: &[Batch], round: u64, count: usize) -> Vec<u32> 
 
 /// Seconds for one call of each contestant.
 pub fn whole(name: &'static str, words: &[u32], batches: &[Batch], share: Duration) -> Vec<Best> {
-    let count = (16_000 / batches.len()).max(4);
-    for number in numbers(name, batches, 0, 50) {
+    let count = (16_000 / batches.len()).max(16);
+    for number in numbers(name, batches, 50) {
         let answers: Vec<Answer> = contestants(name).iter().map(|(_, call)| call.make(words, number)).collect();
         assert!(answers.iter().all(|a| *a == answers[0] && a[0] == 0), "{name} {number}: {answers:?}");
     }
     let turns = contestants(name).into_iter().map(|(who, call)| Turn {
         name: who,
-        go: Box::new(move |round| {
-            let numbers = numbers(name, batches, round, count);
+        go: Box::new(move |_| {
+            let numbers = numbers(name, batches, count);
             let call = black_box(call);
             let all = || numbers.iter().fold(0u64, |sum, &n| sum.wrapping_add(call.make(words, n).iter().sum()));
             black_box(call.make(words, numbers[0]));
