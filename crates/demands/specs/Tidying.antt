@@ -6,7 +6,7 @@ use mathlib.Core.List.{List, [], _∷_, map}
 use lib.ListN.{length}
 use Rattle.scope.specs.Table.{word, changeWord}
 use Rattle.scope.specs.Answers.{accepted}
-use Rattle.scope.specs.Tidy.{linkTo, nextOf, quiet, tidyAnswer, tidyTable}
+use Rattle.scope.specs.Tidy.{linkTo, nextOf, quiet, rulesFired, tidyAnswer, tidyTable}
 use Rattle.scope.specs.Calls.{answers, after}
 use Rattle.scope.specs.declared.outcome.Next.the-variants.{At, Nothing}
 use Rattle.spelling.specs.Whole.{Whole}
@@ -19,6 +19,10 @@ use Rattle.bridge.specs.Leads.{sideNumber}
 -- the numbers of rule n at slot v, which hangs at a link of the table
 abbrev pub trialAt : List ℕ → ℕ → ℕ → ℕ → Trial
 trialAt t c v n = record { rule = n; holder = linkTo t c v .holder; side = sideNumber (linkTo t c v .side) }
+
+-- the rules of such calls
+abbrev pub rulesOf : List Trial → List ℕ
+rulesOf xs = map (λ x. x .rule) xs
 
 -- a call of fire that names a rule which is due at a slot, and the link where that slot hangs
 pub record DueTrial (t : List ℕ) (c : ℕ) (x : Trial) : Type 0 where
@@ -59,10 +63,12 @@ pub record Ran (t : List ℕ) (c budget : ℕ) (xs : List Trial) (t′ : List �
   pub whole : Whole t′ c
   pub ledger : ledgerOf t′ c ≡ ledgerOf t c
 
--- a call of tidy: the calls of fire that it comes to, and its answer; the last number says whether no guard holds
+-- a call of tidy: the calls of fire that it comes to, whose rules are those that `scope` lists, and its answer; the last
+-- number says whether no guard holds
 pub record Tidies (t : List ℕ) (c budget : ℕ) : Type 0 where
   pub trials : List Trial
   pub firings : Firings c t budget trials (tidyTable t budget)
   pub run : Ran t c budget trials (tidyTable t budget)
+  pub rules : rulesFired budget c t ≡ rulesOf trials
   pub answer : tidyAnswer t budget
       ≡ accepted (word t changeWord) (length trials) (cond (quiet (tidyTable t budget) c) 1 0) 0

@@ -1,10 +1,11 @@
 // Standard input, read to its end into a buffer.
 use libc::STDIN_FILENO;
 ghost use mathlib.Core.Path.{_≡_};
+ghost use mathlib.Core.Bool.{false};
 ghost use Prim.Native.Nat.{_+_, _≤_};
 ghost use lib.ListN.{length, take};
 
-// What came of reading.
+// What came of one read.
 pub struct Got {
     pub count: usize,
     pub failed: bool,
@@ -36,23 +37,34 @@ pub fn read_at(buf: &mut [u8], n: usize) -> Got
     read_once(&mut buf[n..])
 }
 
+// What came of reading all: how many bytes, whether a read failed, and whether the input ended.
+pub struct Input {
+    pub count: usize,
+    pub failed: bool,
+    pub ended: bool,
+}
+
 // Reads standard input until it ends, a read fails or buf is full.
-pub fn read_input(buf: &mut [u8]) -> Got
+pub fn read_input(buf: &mut [u8]) -> Input
     ensures { λ r. ⌜ r .count ≤ length (now (buf .entry)) ⌝ }
+    ensures { λ r. ⌜ (r .failed ≡ false → r .ended ≡ false → r .count ≡ length (now (buf .entry))) ⌝ }
 {
     let mut n = 0;
     while n < buf.len() {
         let got = read_at(buf, n);
         if got.count == 0 {
-            return Got {
+            let failed = got.failed;
+            return Input {
                 count: n,
-                failed: got.failed,
+                failed,
+                ended: !failed,
             };
         }
         n += got.count;
     }
-    Got {
+    Input {
         count: n,
         failed: false,
+        ended: false,
     }
 }

@@ -5,7 +5,7 @@ use scope::Refusal;
 use stand_desk::DESK_WORDS;
 ghost use mathlib.Core.Path.{_≡_};
 ghost use Prim.Native.Nat.{_≤_, _<_};
-ghost use mathlib.Core.Bool.{true};
+ghost use mathlib.Core.Bool.{true, false};
 ghost use lib.ListN.{length, take, drop};
 ghost use Rattle.text_print.specs.Line.{answerRoom};
 ghost use Rattle.stand_desk.specs.Desk.{newDesk, deskRoom};
@@ -15,11 +15,14 @@ ghost use Rattle.stand_shift.specs.Run.{mostInput, wholeRun, refusedText
 pub const MOST_INPUT: usize = 65536;
 
 // Writes the next piece of what `stand` prints on this input, of which `sent` bytes are written already: both are only
-// for the contract. That `write_all` puts the piece on the descriptor is assumed, since no contract can say so.
-fn hand_on(input: &[u8], sent: usize, out: &[u8], at: usize)
+// for the contract. The result is how many bytes were written. That `write_all` puts the piece on the descriptor is
+// assumed, since no contract can say so.
+fn hand_on(input: &[u8], sent: usize, out: &[u8], at: usize) -> usize
     requires { ⌜ (at ≤ length (now out)) × (take at (now out) ≡ take at (drop sent (runText (now input)))) ⌝ }
+    ensures { λ r. ⌜ r ≡ at ⌝ }
 {
     io::write_all(STDOUT_FILENO, &out[..at]);
+    at
 }
 
 // Answers each line of the input, and writes all that `stand` prints, piece after piece: the result is how many bytes.
@@ -33,9 +36,7 @@ fn answer_all(input: &[u8], t: &mut [u32], out: &mut [u8]) -> usize
     let mut sent = 0;
     while from < input.len() {
         let filled = fill(t, input, from, out);
-        let at = filled.at;
-        hand_on(input, sent, out, at);
-        sent += at;
+        sent += hand_on(input, sent, out, filled.at);
         from = filled.next;
     }
     sent
@@ -55,13 +56,14 @@ fn refuse_all(input: &[u8], out: &mut [u8]) -> usize
     ensures { λ r. ⌜ r ≡ length (runText (now (input .entry))) ⌝ }
 {
     let n = put_refusal(out);
-    hand_on(input, 0, out, n);
-    n
+    hand_on(input, 0, out, n)
 }
 
-// Answers an input of any length: the result is how many bytes, and they are all that `stand` prints on it.
-fn answer(input: &[u8], t: &mut [u32], out: &mut [u8]) -> usize
-    requires { ⌜ (now t ≡ newDesk) × (deskRoom ≤ length (now out)) × (length (now out) ≤ 16384) ⌝ }
+// Answers an input of any length: the result is how many bytes, and they are all that `stand` prints on it. One that was
+// not read to its end has to be too long already: `ended` is only for the contract.
+fn answer(input: &[u8], ended: bool, t: &mut [u32], out: &mut [u8]) -> usize
+    requires { ⌜ (ended ≡ false → mostInput < length (now input)) × (now t ≡ newDesk)
+        × (deskRoom ≤ length (now out)) × (length (now out) ≤ 16384) ⌝ }
     ensures { λ r. ⌜ r ≡ length (runText (now (input .entry))) ⌝ }
 {
     if MOST_INPUT < input.len() {
@@ -89,6 +91,6 @@ pub fn run() {
     if got.failed {
         refuse_unread(got.failed, &mut out);
     } else {
-        answer(&input[..n], &mut t, &mut out);
+        answer(&input[..n], got.ended, &mut t, &mut out);
     }
 }

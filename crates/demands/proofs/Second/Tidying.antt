@@ -10,7 +10,7 @@ use Rattle.scope.specs.Table.{word, changeWord}
 use Rattle.scope.specs.Sound.{treeIn}
 use Rattle.scope.specs.Answers.{Done, accepted}
 use Rattle.scope.specs.Fire.{aimed, firePlan, fired, fireOf}
-use Rattle.scope.specs.Tidy.{nodesAt, linkTo, nextOf, firedAt, quiet, tidyFrom, tidied, tidyOf, tidyAnswer, tidyTable}
+use Rattle.scope.specs.Tidy.{nodesAt, linkTo, nextOf, firedAt, quiet, tidyFrom, rulesFired, tidied, tidyOf, tidyAnswer, tidyTable}
 use Rattle.scope.specs.Calls.{answers, after}
 use Rattle.scope.specs.declared.answer.Answer.{Answer}
 use Rattle.scope.specs.declared.outcome.Next.{Next}
@@ -27,7 +27,7 @@ use Rattle.bridge.proofs.Resting.Searches.{next-due}
 use Rattle.ledger.specs.Ledger.{Ledger}
 use Rattle.demands.specs.Exactly.{Exactly}
 use Rattle.demands.specs.Fires.{Trial, triedOn}
-use Rattle.demands.specs.Tidying.{trialAt, Firings, rests, spent, next, Stopped, all-spent, at-rest, Ran, Tidies}
+use Rattle.demands.specs.Tidying.{trialAt, rulesOf, Firings, rests, spent, next, Stopped, all-spent, at-rest, Ran, Tidies}
 use Rattle.demands.proofs.Open.{sound-gate, rest-exactly}
 use Rattle.demands.proofs.Second.Due.{link-known}
 use Rattle.demands.proofs.Second.Firing.{SameLedger, fire-ledger}
@@ -54,16 +54,17 @@ record TidyRun (t : List ℕ) (c left made : ℕ) : Type 0 where
   trials : List Trial
   firings : Firings c t left trials (tidyFrom left c t made .words)
   count : tidyFrom left c t made .fired ≡ made + length trials
+  rules : rulesFired left c t ≡ rulesOf trials
 
 none-more : {left : ℕ} {t : List ℕ} {c made : ℕ} → nextOf t c ≡ Nothing → TidyRun t c (suc left) made
-unfolding tidyFrom
+unfolding tidyFrom rulesFired
 none-more {left} {t} {c} {made} e =
     let is : tidyFrom (suc left) c t made ≡ record { fired = made; words = t } = rw e refl in
-    record { trials = []; firings = rw is (rests e); count = rw is (omega arith) }
+    record { trials = []; firings = rw is (rests e); count = rw is (omega arith); rules = rw e refl }
 
 one-more : {left : ℕ} {t : List ℕ} {c made : ℕ} → Whole t c → (v n : ℕ) → nextOf t c ≡ At v n
     → TidyRun (firedAt t c v n) c left (made + 1) → TidyRun t c (suc left) made
-unfolding tidyFrom
+unfolding tidyFrom rulesFired
 one-more {left} {t} {c} {made} w v n e on =
     let is : tidyFrom (suc left) c t made ≡ tidyFrom left c (firedAt t c v n) (made + 1) = rw e refl in
     let x = trialAt t c v n in
@@ -74,6 +75,7 @@ one-more {left} {t} {c} {made} w v n e on =
       trials = x ∷ on .trials;
       firings = rw is (next v n e (ap (λ (d : Done). d .answer) y) f);
       count = rw is (omega (arith, on .count));
+      rules = rw (e, on .rules) refl;
     }
 
 step : {left : ℕ} {t : List ℕ} {c made : ℕ} → Whole t c → (x : Next) → nextOf t c ≡ x
@@ -85,8 +87,8 @@ step {left} {t} {c} w (At v n) e again =
     one-more w v n e (again (firedAt t c v n) (rw (next-fires w v n e) at (s .whole)))
 
 run : (left : ℕ) {t : List ℕ} {c : ℕ} (made : ℕ) → Whole t c → TidyRun t c left made
-unfolding tidyFrom
-run zero {t} {c} made w = record { trials = []; firings = spent; count = omega arith }
+unfolding tidyFrom rulesFired
+run zero {t} {c} made w = record { trials = []; firings = spent; count = omega arith; rules = refl }
 run (suc left) {t} {c} made w = step w (nextOf t c) refl (λ u v. run left (made + 1) v)
 
 more-spent : {t : List ℕ} {c n budget : ℕ} → Stopped t c n budget → Stopped t c (suc n) (suc budget)
@@ -132,6 +134,7 @@ tidy-is {t} {c} w budget =
       trials = r .trials;
       firings = rw words (r .firings);
       run = rw words (firings-run w (r .firings));
+      rules = r .rules;
       answer = ap (λ (d : Done). d .answer) is ∙ rw (count, words) refl;
     }
 

@@ -43,7 +43,7 @@ loop-again c =
     let f = c .before .before .before .before .before .before .fill .ensures in
     let i = c .before .before .before .before .before .before .before .before .before .before .loop .inv in
     let m = f .1 (c .before .before .before .before .before .before .before .before .before .loop-test .taken) in
-    (told-more (i .0) (f .0), omega (arith, m, f .0 .within), omega arith, omega arith, omega arith)
+    (rw (c .hand-on .ensures) (told-more (i .0) (f .0)), omega (arith, m, f .0 .within), omega arith, omega arith, omega arith)
 
 same-length : tie.Need-same-length Inv-loop μ-loop
 same-length c = omega arith
