@@ -9,8 +9,7 @@ use words::zero;
 ghost use mathlib.Core.Path.{_≡_};
 ghost use Prim.Native.Nat.{_≤_};
 ghost use Rattle.scope.specs.Numbers.{mostSlots};
-ghost use Rattle.scope.specs.Post.{recordOk};
-ghost use Rattle.scope.specs.Fit.{stateOk, piecesOk, fitSlot, blankSlot, headerOk};
+ghost use Rattle.scope.specs.Fit.{stateOk, piecesOk, fitSlot, blankSlot, headerOk, recordOk};
 ghost use Rattle.gate.specs.Parts.{burdenOf, registersOk, endsOk, contentsOk, linksOk};
 ghost use Rattle.spelling.specs.Ready.{Headed};
 

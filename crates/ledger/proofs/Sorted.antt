@@ -11,7 +11,7 @@ use borrow.Author.Tests.{eqb-true, eqb-false, ltb-true, ltb-false}
 use Rattle.scope.proofs.Bools.{by-bool}
 use Rattle.scope.specs.Numbers.{lastChange}
 use Rattle.scope.specs.Tree.{Tree, leaf, node, inOrder, Below, Above, Ordered}
-use Rattle.scope.specs.Post.{recordOk}
+use Rattle.scope.specs.Fit.{recordOk}
 use Rattle.scope.specs.Calls.{Call, Start, Check, Find, Post, Amend, Drop, Rank, Total, Worth, Fire, Tidy}
 use Rattle.ledger.specs.Entries.{Entry, lookup, insert, replace, remove}
 use Rattle.ledger.specs.Sorted.{EachStamp, AllAfter, Sorted}

@@ -7,7 +7,7 @@ use lib.ListN.{length}
 use lib.Dec.{leb, ltb, eqb}
 use Rattle.scope.specs.Numbers.{lastChange}
 use Rattle.scope.specs.Answers.{accepted, refusal}
-use Rattle.scope.specs.Post.{recordOk}
+use Rattle.scope.specs.Fit.{recordOk}
 use Rattle.scope.specs.declared.answer.Answer.{Answer}
 use Rattle.scope.specs.declared.answer.Refusal.{Refusal}
 use Rattle.scope.specs.declared.answer.Refusal.the-variants.{OutOfRange, KeyPresent, KeyAbsent, NoFreeSlot, LastChange}

@@ -4,13 +4,13 @@ use mathlib.Core.List.{List, map}
 use Rattle.scope.specs.Numbers.{ruleOf, sideOf, linkOf, slotsOf}
 use Rattle.scope.specs.Table.{slotsIn, slotAt, withSlot, linkAt, written}
 use Rattle.scope.specs.Edits.{writes}
-use Rattle.scope.specs.Fit.{stateOk, piecesOk, linkOk, tailOk, fitSlot, blankSlot, headerOk}
+use Rattle.scope.specs.Fit.{stateOk, piecesOk, linkOk, tailOk, fitSlot, blankSlot, headerOk, recordOk}
 use Rattle.scope.specs.Tree.{size, inOrder, times, below, above, ordered}
 use Rattle.scope.specs.Sound.{treeOf, slotOk, slotsOk, soundTree, soundTable}
 use Rattle.scope.specs.Answers.{gate}
 use Rattle.scope.specs.Walk.{stepOf, walkFrom, walkOf}
 use Rattle.scope.specs.Find.{startOf, foundIn, findAnswer}
-use Rattle.scope.specs.Post.{recordOk, freeFrom, freeSlot, hangAt, postingAt, postPlan, hung, posted, postOf}
+use Rattle.scope.specs.Post.{freeFrom, freeSlot, hangAt, postingAt, postPlan, hung, posted, postOf}
 use Rattle.scope.specs.Amend.{amendingAt, amendPlan, amended, amendOf}
 use Rattle.scope.specs.Drop.{leftmostFrom, ifMay, dropAt, droppingAt, dropPlan, relinked, dropped, dropOf}
 use Rattle.scope.specs.Sums.{checkAnswer, pick, rankOf, ranked, rankAnswer, totalOf, totalAnswer}

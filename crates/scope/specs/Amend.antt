@@ -6,10 +6,9 @@ use lib.ListN.{set}
 use lib.Dec.{ltb}
 use Rattle.scope.specs.Numbers.{lastChange}
 use Rattle.scope.specs.Table.{word, changeWord, slotAt, withRecord, withSlot}
-use Rattle.scope.specs.Fit.{headerOk}
+use Rattle.scope.specs.Fit.{headerOk, recordOk}
 use Rattle.scope.specs.Answers.{Done, refused, accepted, gate}
 use Rattle.scope.specs.Walk.{walkOf}
-use Rattle.scope.specs.Post.{recordOk}
 use Rattle.scope.specs.declared.slot.Slot.{Slot}
 use Rattle.scope.specs.declared.answer.Answer.{Answer}
 use Rattle.scope.specs.declared.answer.Refusal.the-variants.{Damaged, KeyAbsent, LastChange}

@@ -64,11 +64,13 @@ unfoldable pub dropPlan : List ℕ → ℕ → Dropping
 dropPlan t key =
     dropping (gate t (not (eqb key 0)) (λ c. headerOk c t)) (λ c. droppingAt t c (walkOf t c key))
 
--- a son takes a link; where the son is 0 and a slot holds the link, the register beside it becomes 0
+-- a son, or 0, at a link
 unfoldable pub relinked : List ℕ → Link → ℕ → List ℕ
 relinked t link son =
-    cond (not (eqb son 0) || eqb (link .holder) 0) (set t (linkAt link) son)
-    (set (set t (linkAt link) son) (registerAt (link .holder) (link .side)) 0)
+    -- the son takes the link
+    let linked = set t (linkAt link) son in
+    -- if it is 0 and a slot holds the link, that slot's register there becomes 0
+    cond (not (eqb son 0) || eqb (link .holder) 0) linked (set linked (registerAt (link .holder) (link .side)) 0)
 
 -- the slot with the record of another
 abbrev pub withRecordOf : Slot → Slot → Slot
@@ -77,7 +79,7 @@ withRecordOf s from = withRecord s (from .state) (from .key) (from .pieces)
 -- with at most one son
 abbrev pub lifted : List ℕ → ℕ → Link → ℕ → List ℕ
 lifted t slot link son =
-    -- that son, or 0, takes the record's link, and the register there becomes 0 if that is empty
+    -- that son, or 0, takes the record's link, with the register there
     let linked = relinked t link son in
     -- the freed slot is zeroed
     withSlot linked slot zeroSlot
@@ -87,7 +89,7 @@ abbrev pub replaced : List ℕ → ℕ → ℕ → Link → List ℕ
 replaced t slot least link =
     -- the dropped slot takes m's state, key and pieces
     let taken = withSlot t slot (withRecordOf (slotAt t slot) (slotAt t least)) in
-    -- m's right son takes m's link, and the register there becomes 0 if that is empty
+    -- m's right son, or 0, takes m's link, with the register there
     let linked = relinked taken link (slotAt t least .right) in
     -- m's slot is zeroed
     withSlot linked least zeroSlot

@@ -14,6 +14,10 @@ stateOk s = eqb s 1 || eqb s 2
 unfoldable pub piecesOk : ℕ → Bool
 piecesOk p = not (eqb p 0) && leb p mostPieces
 
+-- a record whose key, pieces and state are in range
+unfoldable pub recordOk : ℕ → ℕ → ℕ → Bool
+recordOk key pieces state = not (eqb key 0) && piecesOk pieces && stateOk state
+
 -- a link of a table of c slots and the register beside it, which is 0 beside an empty link
 unfoldable pub linkOk : ℕ → ℕ → ℕ → Bool
 linkOk c link height = leb link c && leb height mostHeight && (not (eqb link 0) || eqb height 0)

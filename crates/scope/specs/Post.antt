@@ -6,7 +6,7 @@ use lib.ListN.{set}
 use lib.Dec.{ltb, eqb}
 use Rattle.scope.specs.Numbers.{lastChange}
 use Rattle.scope.specs.Table.{word, countWord, changeWord, slotAt, zeroSlot, withRecord, withSlot, linkAt}
-use Rattle.scope.specs.Fit.{stateOk, piecesOk, blankSlot, headerOk}
+use Rattle.scope.specs.Fit.{recordOk, blankSlot, headerOk}
 use Rattle.scope.specs.Answers.{Done, refused, accepted, gate}
 use Rattle.scope.specs.Walk.{walkOf}
 use Rattle.scope.specs.declared.slot.Slot.{Slot}
@@ -19,10 +19,6 @@ use Rattle.scope.specs.declared.outcome.Walk.{Walk}
 use Rattle.scope.specs.declared.outcome.Walk.the-variants.{Hit, Miss, Damage}
 use Rattle.scope.specs.declared.outcome.Posting.{Posting}
 use Rattle.scope.specs.declared.outcome.Posting.the-variants.{Refuse, Hang}
-
--- key, pieces and state are in range
-unfoldable pub recordOk : ℕ → ℕ → ℕ → Bool
-recordOk key pieces state = not (eqb key 0) && piecesOk pieces && stateOk state
 
 -- the lowest free slot among the `left` slots from k on; 0 for none
 unfoldable pub freeFrom : ℕ → List ℕ → ℕ → ℕ

@@ -28,8 +28,9 @@ nodesAt t r link v =
     let w = cond (hasThird (r .kind)) (son (slotAt t u) (other (r .side))) u in
     record { link = link; v = v; u = u; w = w; sv = slotAt t v; su = slotAt t u; sw = slotAt t w }
 
--- the nodes are there: v holds a record, and u and w are slots of a table of c. On a sound table, and tidy fires on no
--- other, links never lead outside it; the test makes the definition say every word for any words at all
+-- the nodes are there: v holds a record, and u and w are slots of a table of c; 0, an empty link, is none. That they are
+-- at most c is so on every sound table, and tidy fires on no other; it is tested all the same, so that the code may read
+-- u and w without knowing more than the table's size
 abbrev pub present : ℕ → Nodes → Bool
 present c n =
     not (eqb (n .sv .state) 0) && (not (eqb (n .u) 0) && leb (n .u) c) && (not (eqb (n .w) 0) && leb (n .w) c)

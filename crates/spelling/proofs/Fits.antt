@@ -7,8 +7,8 @@ use lib.Dec.{eqb}
 use borrow.Author.Tests.{ne-eqb, le-leb}
 use Rattle.scope.proofs.Bools.{and-l, and-r}
 use Rattle.scope.specs.Numbers.{mostHeight}
-use Rattle.scope.specs.Fit.{stateOk, piecesOk, linkOk, tailOk, fitSlot}
-use Rattle.scope.specs.Post.{recordOk, leafSlot}
+use Rattle.scope.specs.Fit.{stateOk, piecesOk, linkOk, tailOk, fitSlot, recordOk}
+use Rattle.scope.specs.Post.{leafSlot}
 
 -- a link to a slot of the table, beside a register in range
 pub link-on : (c x h : ℕ) → 1 ≤ x → x ≤ c → h ≤ mostHeight → linkOk c x h ≡ true

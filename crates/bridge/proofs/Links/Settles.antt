@@ -12,10 +12,9 @@ use borrow.Author.Tests.{ne-eqb}
 use Rattle.scope.proofs.Bools.{by-bool}
 use Rattle.scope.specs.Numbers.{rootLink}
 use Rattle.scope.specs.Table.{word, rootWord, countWord, changeWord, zeroWord, slotAt, withSlot, linkAt}
-use Rattle.scope.specs.Fit.{headerOk, blankSlot}
+use Rattle.scope.specs.Fit.{headerOk, blankSlot, recordOk}
 use Rattle.scope.specs.Tree.{Batch, Tree, node, size, times, Ordered}
 use Rattle.scope.specs.Sound.{Spells, Sound}
-use Rattle.scope.specs.Post.{recordOk}
 use Rattle.scope.specs.Amend.{withPieces}
 use Rattle.scope.specs.declared.side.Link.{Link}
 use Rattle.spelling.specs.Ready.{Sized}

@@ -7,10 +7,9 @@ use native.Mathlib.Omega.{arith}
 use lib.Dec.{eqb}
 use Rattle.scope.proofs.Bools.{and-l, and-r}
 use Rattle.scope.specs.Table.{word, slotAt, withSlot, linkAt}
-use Rattle.scope.specs.Fit.{stateOk, piecesOk, linkOk, tailFits, fitSlot}
+use Rattle.scope.specs.Fit.{stateOk, piecesOk, linkOk, tailFits, fitSlot, recordOk}
 use Rattle.scope.specs.Tree.{Batch, Tree, node, times, same}
 use Rattle.scope.specs.Sound.{Spells}
-use Rattle.scope.specs.Post.{recordOk}
 use Rattle.scope.specs.Amend.{withPieces}
 use Rattle.scope.specs.Drop.{withRecordOf}
 use Rattle.scope.specs.declared.slot.Slot.{Slot}

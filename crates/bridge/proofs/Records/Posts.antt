@@ -10,10 +10,10 @@ use lib.ListN.{set}
 use borrow.Author.Tests.{ne-eqb}
 use Rattle.scope.specs.Numbers.{rootLink}
 use Rattle.scope.specs.Table.{word, rootWord, countWord, changeWord, slotAt, withSlot, linkAt, written}
-use Rattle.scope.specs.Fit.{headerOk}
+use Rattle.scope.specs.Fit.{headerOk, recordOk}
 use Rattle.scope.specs.Tree.{Batch, Tree, leaf, node, size, times, same}
 use Rattle.scope.specs.Sound.{Spells}
-use Rattle.scope.specs.Post.{recordOk, leafSlot, hung}
+use Rattle.scope.specs.Post.{leafSlot, hung}
 use Rattle.scope.specs.declared.side.Side.{Side}
 use Rattle.scope.specs.declared.side.Link.{Link}
 use Rattle.spelling.specs.Ready.{Sized}

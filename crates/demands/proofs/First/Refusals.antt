@@ -8,11 +8,11 @@ use lib.Dec.{eqb, ltb}
 use Rattle.scope.proofs.Bools.{neither}
 use Rattle.scope.specs.Numbers.{lastChange}
 use Rattle.scope.specs.Table.{word, countWord, changeWord, slotsIn, slotAt, son}
-use Rattle.scope.specs.Fit.{blankSlot, headerOk}
+use Rattle.scope.specs.Fit.{blankSlot, headerOk, recordOk}
 use Rattle.scope.specs.Answers.{Done, codeOf, refused, gate, answering, admit, onSlots}
 use Rattle.scope.specs.Walk.{walkOf}
 use Rattle.scope.specs.Find.{started, startOf, foundIn, findAnswer}
-use Rattle.scope.specs.Post.{recordOk, freeSlot, posting, hangAt, postingAt, postPlan, posted, postOf, leafSlot}
+use Rattle.scope.specs.Post.{freeSlot, posting, hangAt, postingAt, postPlan, posted, postOf, leafSlot}
 use Rattle.scope.specs.Amend.{amending, amendingAt, amendPlan, amended, amendOf}
 use Rattle.scope.specs.Drop.{dropping, leftmostFrom, ifMay, replacing, dropAt, droppingAt, dropPlan, dropped, dropOf}
 use Rattle.scope.specs.Sound.{soundTable, treeIn}

@@ -14,7 +14,7 @@ use Rattle.scope.specs.Table.{word, changeWord, slotAt, withSlot, written}
 use Rattle.scope.specs.Tree.{Batch, Tree}
 use Rattle.scope.specs.Sound.{treeIn}
 use Rattle.scope.specs.Answers.{refused}
-use Rattle.scope.specs.Post.{recordOk}
+use Rattle.scope.specs.Fit.{recordOk}
 use Rattle.scope.specs.Amend.{withPieces, amendingAt, amendPlan, amended, amendOf}
 use Rattle.scope.specs.declared.answer.Refusal.{Refusal}
 use Rattle.scope.specs.declared.answer.Refusal.the-variants.{OutOfRange, KeyAbsent, LastChange}

@@ -13,7 +13,8 @@ use Rattle.scope.specs.Numbers.{rootLink, lastChange}
 use Rattle.scope.specs.Table.{word, countWord, changeWord}
 use Rattle.scope.specs.Tree.{Batch, Tree, size}
 use Rattle.scope.specs.Sound.{treeIn}
-use Rattle.scope.specs.Post.{recordOk, freeSlot, hangAt, postingAt, postPlan, leafSlot, posted, postOf}
+use Rattle.scope.specs.Fit.{recordOk}
+use Rattle.scope.specs.Post.{freeSlot, hangAt, postingAt, postPlan, leafSlot, posted, postOf}
 use Rattle.scope.specs.declared.answer.Refusal.the-variants.{OutOfRange, KeyPresent, NoFreeSlot, LastChange}
 use Rattle.scope.specs.declared.side.Link.{Link}
 use Rattle.spelling.specs.Whole.{Whole}

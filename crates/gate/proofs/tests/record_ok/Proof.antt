@@ -1,7 +1,7 @@
 -- `gate::tests::record_ok` meets its contract. Assumes nothing.
 use mathlib.Core.Path.{sym}
 use borrow.Author.Needs.{needs}
-use Rattle.scope.specs.Post.{recordOk}
+use Rattle.scope.specs.Fit.{recordOk}
 use Rattle.gate.proofs.tests.record_ok.Statement.{statement}
 use Rattle.gate.proofs.tests.record_ok.Tie as tie
 
