@@ -15,7 +15,7 @@ unsafe fn word(t: *const u32, k: usize, field: usize) -> u32 {
 unsafe fn answer(t: *const u32, k: usize, visits: u64, out: *mut u64) {
     let out = &mut *out.cast::<Answer>();
     if k == 0 {
-        *out = refuse(ABSENT);
+        *out = refuse(KEY_ABSENT);
     } else {
         *out = [0, (*t.add(CHANGE)).into(), word(t, k, PIECES).into(), visits, word(t, k, STATE).into()];
     }

@@ -1,6 +1,6 @@
 //! The balanced trees of others: Rust's BTreeMap here, and the declarations of those in bench/peers.
 
-use crate::words::{refuse, Answer, ABSENT, PRESENT};
+use crate::words::{refuse, Answer, KEY_ABSENT, KEY_PRESENT};
 use std::collections::btree_map::{BTreeMap, Entry};
 use std::ffi::c_void;
 
@@ -22,7 +22,7 @@ pub unsafe extern "C" fn btree_close(t: *mut c_void) {
 pub unsafe extern "C" fn btree_find(t: *const c_void, _n: usize, key: u32, out: *mut u64) {
     let store = &*t.cast::<Store>();
     *out.cast::<Answer>() = match store.records.get(&key) {
-        None => refuse(ABSENT),
+        None => refuse(KEY_ABSENT),
         Some(&(pieces, state)) => [0, store.change.into(), pieces.into(), 0, state.into()],
     };
 }
@@ -31,7 +31,7 @@ pub unsafe extern "C" fn btree_find(t: *const c_void, _n: usize, key: u32, out: 
 pub unsafe extern "C" fn btree_post(t: *mut c_void, _n: usize, key: u32, pieces: u32, state: u32, out: *mut u64) {
     let store = &mut *t.cast::<Store>();
     *out.cast::<Answer>() = match store.records.entry(key) {
-        Entry::Occupied(_) => refuse(PRESENT),
+        Entry::Occupied(_) => refuse(KEY_PRESENT),
         Entry::Vacant(place) => {
             place.insert((pieces, state));
             store.change += 1;
@@ -44,7 +44,7 @@ pub unsafe extern "C" fn btree_post(t: *mut c_void, _n: usize, key: u32, pieces:
 pub unsafe extern "C" fn btree_drop(t: *mut c_void, _n: usize, key: u32, out: *mut u64) {
     let store = &mut *t.cast::<Store>();
     *out.cast::<Answer>() = match store.records.remove(&key) {
-        None => refuse(ABSENT),
+        None => refuse(KEY_ABSENT),
         Some(_) => {
             store.change += 1;
             [0, store.change.into(), 0, 0, 0]

@@ -41,16 +41,16 @@ fn walk(slots: &[Slot], root: u32, key: u32) -> Option<Way> {
 }
 
 pub fn find(words: &[u32], key: u32) -> Answer {
-    let Some((header, slots)) = parts(words) else { return refuse(LENGTH) };
+    let Some((header, slots)) = parts(words) else { return refuse(WRONG_LENGTH) };
     if key == 0 {
-        return refuse(RANGE);
+        return refuse(OUT_OF_RANGE);
     }
     if !header_good(header, slots.len()) {
         return refuse(DAMAGED);
     }
     match walk(slots, header[ROOT], key) {
         None => refuse(DAMAGED),
-        Some(way) if way.slot == 0 => refuse(ABSENT),
+        Some(way) if way.slot == 0 => refuse(KEY_ABSENT),
         Some(way) => {
             let s = &slots[way.slot - 1];
             accept(header, s[PIECES].into(), way.visits as u64, s[STATE].into())
@@ -74,23 +74,23 @@ fn free_slot(slots: &[Slot]) -> Option<usize> {
 }
 
 pub fn post(words: &mut [u32], key: u32, pieces: u32, state: u32) -> Answer {
-    let Some((header, slots)) = parts_mut(words) else { return refuse(LENGTH) };
+    let Some((header, slots)) = parts_mut(words) else { return refuse(WRONG_LENGTH) };
     if key == 0 || pieces.wrapping_sub(1) >= MOST_PIECES || state.wrapping_sub(1) >= 2 {
-        return refuse(RANGE);
+        return refuse(OUT_OF_RANGE);
     }
     if !header_good(header, slots.len()) {
         return refuse(DAMAGED);
     }
     let Some(way) = walk(slots, header[ROOT], key) else { return refuse(DAMAGED) };
     if way.slot != 0 {
-        return refuse(PRESENT);
+        return refuse(KEY_PRESENT);
     }
-    let Some(free) = free_slot(slots) else { return refuse(FULL) };
+    let Some(free) = free_slot(slots) else { return refuse(NO_FREE_SLOT) };
     if !blank(&slots[free]) || header[RECORDS] as usize == slots.len() {
         return refuse(DAMAGED);
     }
     if header[CHANGE] == u32::MAX {
-        return refuse(SPENT);
+        return refuse(LAST_CHANGE);
     }
     slots[free] = leaf(state, key, pieces);
     put_link(header, slots, way.holder, way.side, free as u32 + 1);
@@ -100,16 +100,16 @@ pub fn post(words: &mut [u32], key: u32, pieces: u32, state: u32) -> Answer {
 }
 
 pub fn drop(words: &mut [u32], key: u32) -> Answer {
-    let Some((header, slots)) = parts_mut(words) else { return refuse(LENGTH) };
+    let Some((header, slots)) = parts_mut(words) else { return refuse(WRONG_LENGTH) };
     if key == 0 {
-        return refuse(RANGE);
+        return refuse(OUT_OF_RANGE);
     }
     if !header_good(header, slots.len()) {
         return refuse(DAMAGED);
     }
     let Some(mut way) = walk(slots, header[ROOT], key) else { return refuse(DAMAGED) };
     if way.slot == 0 {
-        return refuse(ABSENT);
+        return refuse(KEY_ABSENT);
     }
     let record = way.slot;
     let [_, _, _, left, right, ..] = slots[record - 1];
@@ -135,7 +135,7 @@ pub fn drop(words: &mut [u32], key: u32) -> Answer {
         return refuse(DAMAGED);
     }
     if header[CHANGE] == u32::MAX {
-        return refuse(SPENT);
+        return refuse(LAST_CHANGE);
     }
     let least = slots[way.slot - 1];
     let son = if two { least[RIGHT] } else { left | right };

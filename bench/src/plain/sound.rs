@@ -63,7 +63,7 @@ pub fn sound(header: &Header, slots: &[Slot]) -> bool {
 
 pub fn check(words: &[u32]) -> Answer {
     match parts(words) {
-        None => refuse(LENGTH),
+        None => refuse(WRONG_LENGTH),
         Some((header, slots)) if !sound(header, slots) => refuse(DAMAGED),
         Some((header, _)) => accept(header, 0, 0, 0),
     }

@@ -24,21 +24,21 @@ fn ranked(slots: &[Slot], root: u32, r: u32) -> u32 {
 }
 
 pub fn rank(words: &[u32], r: u32) -> Answer {
-    let Some((header, slots)) = parts(words) else { return refuse(LENGTH) };
+    let Some((header, slots)) = parts(words) else { return refuse(WRONG_LENGTH) };
     if r == 0 {
-        return refuse(RANGE);
+        return refuse(OUT_OF_RANGE);
     }
     if !sound(header, slots) {
         return refuse(DAMAGED);
     }
     if r > header[RECORDS] {
-        return refuse(ABSENT);
+        return refuse(KEY_ABSENT);
     }
     accept(header, ranked(slots, header[ROOT], r).into(), 0, 0)
 }
 
 pub fn total(words: &[u32], key: u32) -> Answer {
-    let Some((header, slots)) = parts(words) else { return refuse(LENGTH) };
+    let Some((header, slots)) = parts(words) else { return refuse(WRONG_LENGTH) };
     if !sound(header, slots) {
         return refuse(DAMAGED);
     }
@@ -59,7 +59,7 @@ fn sum_under(slots: &[Slot], k: u32, key: u32) -> u64 {
 
 /// total in the form that ours has: the tree walked, instead of the slots read in a row.
 pub fn total_walking(words: &[u32], key: u32) -> Answer {
-    let Some((header, slots)) = parts(words) else { return refuse(LENGTH) };
+    let Some((header, slots)) = parts(words) else { return refuse(WRONG_LENGTH) };
     if !sound(header, slots) {
         return refuse(DAMAGED);
     }
@@ -89,7 +89,7 @@ fn weigh_slot(slots: &[Slot], k: u32, n: u64, register: u64) -> (u64, u64) {
 }
 
 pub fn worth(words: &[u32]) -> Answer {
-    let Some((header, slots)) = parts(words) else { return refuse(LENGTH) };
+    let Some((header, slots)) = parts(words) else { return refuse(WRONG_LENGTH) };
     if !sound(header, slots) {
         return refuse(DAMAGED);
     }

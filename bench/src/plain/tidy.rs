@@ -85,7 +85,7 @@ pub fn tidy(words: &mut [u32], budget: u32) -> Answer {
 
 /// How a tidy begins and ends, whatever way it runs in between.
 pub fn tidied(words: &mut [u32], budget: u32, run: fn(&mut Header, &mut [Slot], u32) -> u32) -> Answer {
-    let Some((header, slots)) = parts_mut(words) else { return refuse(LENGTH) };
+    let Some((header, slots)) = parts_mut(words) else { return refuse(WRONG_LENGTH) };
     if !sound(header, slots) {
         return refuse(DAMAGED);
     }

@@ -124,7 +124,7 @@ fn firing(dice: &mut Dice, words: &[u32], slots: usize) -> Call {
     for _ in 0..dice.pick(&[0, 8, 40]) {
         let (_, holder, side) = throw(dice, slots, 1, 8, 0, 1);
         let lawful = holder as usize <= slots && !(holder == 0 && side == 1) && slots_of(words.len()).is_some();
-        if lawful && judge(words, slots, rule, holder as usize, side as usize) != Err(NO_GUARD) {
+        if lawful && judge(words, slots, rule, holder as usize, side as usize) != Err(GUARD_FAILS) {
             return Call::new("fire", &[rule, holder, side]);
         }
     }

@@ -32,7 +32,7 @@ fn party(words: &[u32], slots: usize, rule: u32, holder: usize, side: usize) -> 
     let mut met = Vec::new();
     if holder != 0 {
         if get(words, holder, STATE) == 0 {
-            return Err(NO_GUARD);
+            return Err(GUARD_FAILS);
         }
         if !is_fit(words, slots, holder) {
             return Err(DAMAGED);
@@ -45,7 +45,7 @@ fn party(words: &[u32], slots: usize, rule: u32, holder: usize, side: usize) -> 
     for way in &ways[..if rule >= 7 { 3 } else { 2 }] {
         let next = link(words, from, *way);
         if next == 0 {
-            return Err(NO_GUARD);
+            return Err(GUARD_FAILS);
         }
         if !is_fit(words, slots, next) || met.contains(&next) {
             return Err(DAMAGED);
@@ -117,7 +117,7 @@ pub fn judge(words: &[u32], slots: usize, rule: u32, holder: usize, side: usize)
     }
     let party = party(words, slots, rule, holder, side)?;
     if !guard(words, rule, &party) {
-        return Err(NO_GUARD);
+        return Err(GUARD_FAILS);
     }
     let writes = writes(words, rule, holder, side, &party);
     // Links are far below the height limit, so one test serves every number.
@@ -134,10 +134,10 @@ fn write(words: &mut [u32], writes: &[(usize, i64)]) {
 }
 
 pub fn fire(words: &mut [u32], rule: u32, holder: u32, side: u32) -> Answer {
-    let Some(slots) = slots_of(words.len()) else { return refuse(LENGTH) };
+    let Some(slots) = slots_of(words.len()) else { return refuse(WRONG_LENGTH) };
     let in_range = (1..=8).contains(&rule) && holder as usize <= slots && side <= 1;
     if !in_range || (holder == 0 && side == 1) {
-        return refuse(RANGE);
+        return refuse(OUT_OF_RANGE);
     }
     match judge(words, slots, rule, holder as usize, side as usize) {
         Err(code) => refuse(code),
@@ -167,7 +167,7 @@ fn first_firing(words: &[u32], slots: usize) -> (Option<Vec<(usize, i64)>>, bool
 }
 
 pub fn tidy(words: &mut [u32], budget: u32) -> Answer {
-    let Some(slots) = slots_of(words.len()) else { return refuse(LENGTH) };
+    let Some(slots) = slots_of(words.len()) else { return refuse(WRONG_LENGTH) };
     if !is_sound(words, slots) {
         return refuse(DAMAGED);
     }

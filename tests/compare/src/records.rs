@@ -58,7 +58,7 @@ fn walk(words: &[u32], slots: usize, key: u32) -> Option<Way> {
 
 pub fn start(words: &mut [u32]) -> Answer {
     if slots_of(words.len()).is_none() {
-        return refuse(LENGTH);
+        return refuse(WRONG_LENGTH);
     }
     words.fill(0);
     accept(words, 0, 0, 0)
@@ -66,20 +66,20 @@ pub fn start(words: &mut [u32]) -> Answer {
 
 pub fn check(words: &[u32]) -> Answer {
     match slots_of(words.len()) {
-        None => refuse(LENGTH),
+        None => refuse(WRONG_LENGTH),
         Some(slots) if !is_sound(words, slots) => refuse(DAMAGED),
         Some(_) => accept(words, 0, 0, 0),
     }
 }
 
 pub fn find(words: &[u32], key: u32) -> Answer {
-    let Some(slots) = slots_of(words.len()) else { return refuse(LENGTH) };
+    let Some(slots) = slots_of(words.len()) else { return refuse(WRONG_LENGTH) };
     if key == 0 {
-        return refuse(RANGE);
+        return refuse(OUT_OF_RANGE);
     }
     match walk(words, slots, key) {
         None => refuse(DAMAGED),
-        Some(way) if way.slot == 0 => refuse(ABSENT),
+        Some(way) if way.slot == 0 => refuse(KEY_ABSENT),
         Some(way) => {
             let field = |f| u64::from(get(words, way.slot, f));
             accept(words, field(PIECES), way.visits as u64, field(STATE))
@@ -93,20 +93,20 @@ fn record_in_range(key: u32, pieces: u32, state: u32) -> bool {
 }
 
 pub fn post(words: &mut [u32], key: u32, pieces: u32, state: u32) -> Answer {
-    let Some(slots) = slots_of(words.len()) else { return refuse(LENGTH) };
+    let Some(slots) = slots_of(words.len()) else { return refuse(WRONG_LENGTH) };
     if !record_in_range(key, pieces, state) {
-        return refuse(RANGE);
+        return refuse(OUT_OF_RANGE);
     }
     let Some(way) = walk(words, slots, key) else { return refuse(DAMAGED) };
     if way.slot != 0 {
-        return refuse(PRESENT);
+        return refuse(KEY_PRESENT);
     }
-    let Some(free) = (1..=slots).find(|&k| get(words, k, STATE) == 0) else { return refuse(FULL) };
+    let Some(free) = (1..=slots).find(|&k| get(words, k, STATE) == 0) else { return refuse(NO_FREE_SLOT) };
     if !is_blank(words, free) || words[RECORDS] as usize == slots {
         return refuse(DAMAGED);
     }
     if words[CHANGE] == u32::MAX {
-        return refuse(SPENT);
+        return refuse(LAST_CHANGE);
     }
     words[place(free, STATE)] = state;
     words[place(free, KEY)] = key;
@@ -118,16 +118,16 @@ pub fn post(words: &mut [u32], key: u32, pieces: u32, state: u32) -> Answer {
 }
 
 pub fn amend(words: &mut [u32], key: u32, pieces: u32, state: u32) -> Answer {
-    let Some(slots) = slots_of(words.len()) else { return refuse(LENGTH) };
+    let Some(slots) = slots_of(words.len()) else { return refuse(WRONG_LENGTH) };
     if !record_in_range(key, pieces, state) {
-        return refuse(RANGE);
+        return refuse(OUT_OF_RANGE);
     }
     let Some(way) = walk(words, slots, key) else { return refuse(DAMAGED) };
     if way.slot == 0 {
-        return refuse(ABSENT);
+        return refuse(KEY_ABSENT);
     }
     if words[CHANGE] == u32::MAX {
-        return refuse(SPENT);
+        return refuse(LAST_CHANGE);
     }
     words[place(way.slot, STATE)] = state;
     words[place(way.slot, PIECES)] = pieces;
@@ -144,14 +144,14 @@ fn hang(words: &mut [u32], holder: usize, side: usize, son: usize) {
 }
 
 pub fn drop(words: &mut [u32], key: u32) -> Answer {
-    let Some(slots) = slots_of(words.len()) else { return refuse(LENGTH) };
+    let Some(slots) = slots_of(words.len()) else { return refuse(WRONG_LENGTH) };
     if key == 0 {
-        return refuse(RANGE);
+        return refuse(OUT_OF_RANGE);
     }
     let Some(mut way) = walk(words, slots, key) else { return refuse(DAMAGED) };
     let record = way.slot;
     if record == 0 {
-        return refuse(ABSENT);
+        return refuse(KEY_ABSENT);
     }
     let sons = [link(words, record, 0), link(words, record, 1)];
     let two = sons[0] != 0 && sons[1] != 0;
@@ -171,7 +171,7 @@ pub fn drop(words: &mut [u32], key: u32) -> Answer {
         return refuse(DAMAGED);
     }
     if words[CHANGE] == u32::MAX {
-        return refuse(SPENT);
+        return refuse(LAST_CHANGE);
     }
     if two {
         for field in [STATE, KEY, PIECES] {

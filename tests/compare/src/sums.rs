@@ -5,21 +5,21 @@ use crate::paper::*;
 use crate::records::{accept, refuse, Answer};
 
 pub fn rank(words: &[u32], r: u32) -> Answer {
-    let Some(slots) = slots_of(words.len()) else { return refuse(LENGTH) };
+    let Some(slots) = slots_of(words.len()) else { return refuse(WRONG_LENGTH) };
     if r == 0 {
-        return refuse(RANGE);
+        return refuse(OUT_OF_RANGE);
     }
     if !is_sound(words, slots) {
         return refuse(DAMAGED);
     }
     match in_order(words).get(r as usize - 1) {
-        None => refuse(ABSENT),
+        None => refuse(KEY_ABSENT),
         Some(&slot) => accept(words, slot as u64, 0, 0),
     }
 }
 
 pub fn total(words: &[u32], key: u32) -> Answer {
-    let Some(slots) = slots_of(words.len()) else { return refuse(LENGTH) };
+    let Some(slots) = slots_of(words.len()) else { return refuse(WRONG_LENGTH) };
     if !is_sound(words, slots) {
         return refuse(DAMAGED);
     }
@@ -63,7 +63,7 @@ pub fn worth_of(words: &[u32]) -> i128 {
 
 pub fn worth(words: &[u32]) -> Answer {
     match slots_of(words.len()) {
-        None => refuse(LENGTH),
+        None => refuse(WRONG_LENGTH),
         Some(slots) if !is_sound(words, slots) => refuse(DAMAGED),
         Some(_) => accept(words, worth_of(words) as u64, 0, 0),
     }
