@@ -6,7 +6,7 @@ use scope::Link;
 use scope::Slot;
 ghost use mathlib.Core.Path.{_≡_};
 ghost use Prim.Native.Nat.{_-_, _≤_, _<_};
-ghost use Rattle.scope.specs.Numbers.{lastChange};
+ghost use Rattle.scope.specs.Numbers.{lastChange, mostSlots};
 ghost use Rattle.scope.specs.Table.{slotAt, withSlot, InTable};
 ghost use Rattle.scope.specs.Table.{zeroSlot};
 ghost use Rattle.scope.specs.Drop.{relinked, withRecordOf, dropped};
@@ -41,7 +41,7 @@ pub fn take_record(t: &mut [u32], slot: usize, from: Slot)
 
 // The slot is freed: zeros, one record fewer than before, one change more.
 pub fn vacate(t: &mut [u32], slot: usize, count: usize, change: u32) -> Answer
-    requires { ⌜ InTable (now t) slot × (1 ≤ count) × (count ≤ 4095) × (change < lastChange) ⌝ }
+    requires { ⌜ InTable (now t) slot × (1 ≤ count) × (count ≤ mostSlots) × (change < lastChange) ⌝ }
     ensures { λ r. ⌜ Does (settled (withSlot (now (t .entry)) slot zeroSlot) (count - 1) change slot) r (now (t .exit)) ⌝ }
 {
     words::put_slot(t, slot, Slot::zeros());

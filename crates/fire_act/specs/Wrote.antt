@@ -3,6 +3,7 @@ use Prim.Native.Nat.{ℕ, _≤_}
 use mathlib.Core.Path.{_≡_}
 use mathlib.Core.List.{List}
 use lib.ListN.{set}
+use Rattle.scope.specs.Numbers.{mostHeight}
 use Rattle.scope.specs.Rules.{seen, highest}
 use Rattle.scope.specs.declared.side.Side.{Side}
 use Rattle.scope.specs.declared.rule.Kind.{Kind}
@@ -32,4 +33,4 @@ Wrote t c i x u = Kept c (set t i x) u
 
 -- the heights that an action of this kind works out are heights
 abbrev pub HeightsLow : Kind → Side → Nodes → Type 0
-HeightsLow k s n = highest k (seen s (n .sv)) (seen s (n .su)) (seen s (n .sw)) ≤ 65535
+HeightsLow k s n = highest k (seen s (n .sv)) (seen s (n .su)) (seen s (n .sw)) ≤ mostHeight

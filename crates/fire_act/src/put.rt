@@ -2,6 +2,7 @@
 use scope::Link;
 use scope::Side;
 ghost use Prim.Native.Nat.{_≤_};
+ghost use Rattle.scope.specs.Numbers.{mostHeight};
 ghost use Rattle.scope.specs.Edits.{sonOn, registerOn, placeOf};
 ghost use Rattle.spelling.specs.Ready.{Sized};
 ghost use Rattle.fire_act.specs.Wrote.{Wrote, SlotThere};
@@ -38,7 +39,7 @@ pub fn copy_register(t: &mut [u32], c: usize, k: usize, side: Side, height: u32)
 }
 
 pub fn put_height(t: &mut [u32], c: usize, k: usize, side: Side, height: u64)
-    requires { ⌜ SlotThere (now t) c k × (height ≤ 65535) ⌝ }
+    requires { ⌜ SlotThere (now t) c k × (height ≤ mostHeight) ⌝ }
     ensures { λ _. ⌜ Wrote (now (t .entry)) c (placeOf k (registerOn side)) height (now (t .exit)) ⌝ }
 {
     words::put_register(t, k, side, height as u32);

@@ -2,6 +2,7 @@
 use Prim.Native.Nat.{ℕ, _≤_}
 use mathlib.Core.Path.{_≡_}
 use mathlib.Core.List.{List}
+use Rattle.scope.specs.Numbers.{mostHeight}
 use Rattle.scope.specs.Table.{word, linkAt}
 use Rattle.scope.specs.Rules.{highestAt}
 use Rattle.scope.specs.declared.rule.Rule.{Rule}
@@ -37,7 +38,7 @@ pub record NodesInside (c : ℕ) (n : Nodes) : Type 0 where
 -- and the heights that the action works out are heights
 pub record NodesWithin (c : ℕ) (r : Rule) (n : Nodes) : Type 0 where
   pub nodes : NodesInside c n
-  pub height : highestAt r n ≤ 65535
+  pub height : highestAt r n ≤ mostHeight
 
 abbrev pub MayFire : ℕ → Firing → Type 0
 MayFire c (Refuse why) = Unit {0}

@@ -14,7 +14,7 @@ ghost use mathlib.Core.Path.{_≡_};
 ghost use Prim.Native.Nat.{_≤_};
 ghost use lib.Dec.{leb};
 ghost use Rattle.scope.specs.Table.{son};
-ghost use Rattle.scope.specs.Numbers.{other};
+ghost use Rattle.scope.specs.Numbers.{other, mostHeight};
 ghost use Rattle.scope.specs.Rules.{guardAt, highestAt};
 ghost use Rattle.scope.specs.Fire.{takeOf, judged, hasThird, aimW, aimU, aimV, aim};
 ghost use Rattle.spelling.specs.Ready.{Sized, Ready};
@@ -52,7 +52,7 @@ pub fn guarded(r: Rule, n: Nodes) -> bool
 
 // The heights that its action works out are heights.
 pub fn within(r: Rule, n: Nodes) -> bool
-    ensures { λ b. ⌜ b ≡ leb (highestAt r n) 65535 ⌝ }
+    ensures { λ b. ⌜ b ≡ leb (highestAt r n) mostHeight ⌝ }
 {
     let kind = r.kind;
     let side = r.side;

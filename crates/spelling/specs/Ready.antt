@@ -3,6 +3,7 @@ use Prim.Native.Nat.{ℕ, _≤_}
 use mathlib.Core.Path.{_≡_}
 use mathlib.Core.List.{List}
 use lib.ListN.{length}
+use Rattle.scope.specs.Numbers.{mostSlots}
 use Rattle.scope.specs.Table.{headWords, tableWords, word, rootWord, countWord}
 use Rattle.scope.specs.Post.{freeSlot}
 
@@ -14,7 +15,7 @@ Headed t = headWords ≤ length t
 pub record Sized (t : List ℕ) (c : ℕ) : Type 0 where
   pub room : tableWords c ≡ length t
   pub some : 1 ≤ c
-  pub most : c ≤ 4095
+  pub most : c ≤ mostSlots
 
 -- a table of c slots with a good header
 pub record Ready (t : List ℕ) (c : ℕ) : Type 0 where

@@ -1,5 +1,6 @@
 // One step of `stand`: a line read, carried out on the table and answered in a lent buffer.
 use scope::Answer;
+use scope::Head;
 use scope::Refusal;
 use scope::Slot;
 use text_lines::Command;
@@ -13,7 +14,7 @@ ghost use Rattle.stand_desk.specs.Step.{wishOf, replyOf, tableAfter, rep
 // The table of `stand`: its slots, its words, and the most bytes that a line on it prints.
 pub const DESK_SLOTS: usize = 15;
 
-pub const DESK_WORDS: usize = 4 + Slot::WORDS * DESK_SLOTS;
+pub const DESK_WORDS: usize = Head::WORDS + Slot::WORDS * DESK_SLOTS;
 
 pub const DESK_ROOM: usize = 133 + 214 * DESK_SLOTS;
 

@@ -6,6 +6,7 @@ use scope::Slot;
 ghost use mathlib.Core.Path.{_≡_};
 ghost use Prim.Native.Nat.{_≤_, _<_};
 ghost use lib.ListN.{length};
+ghost use Rattle.scope.specs.Numbers.{mostSlots};
 ghost use Rattle.scope.specs.Table.{word, rootWord, countWord, changeWord, zeroWord, slotAt, son, register, linkAt, registerAt, InTable};
 ghost use Rattle.spelling.specs.Ready.{Headed};
 
@@ -112,7 +113,7 @@ pub fn register(s: Slot, side: Side) -> u32
 
 // Where a link stands.
 pub fn link_word(link: Link) -> usize
-    requires { ⌜ link .holder ≤ 4095 ⌝ }
+    requires { ⌜ link .holder ≤ mostSlots ⌝ }
     ensures { λ r. ⌜ r ≡ linkAt link ⌝ }
 {
     let holder = link.holder;
@@ -129,7 +130,7 @@ pub fn link_word(link: Link) -> usize
 
 // The slot that hangs at a link, 0 for none.
 pub fn link_at(t: &[u32], link: Link) -> usize
-    requires { ⌜ (link .holder ≤ 4095) × (linkAt link < length (now t)) ⌝ }
+    requires { ⌜ (link .holder ≤ mostSlots) × (linkAt link < length (now t)) ⌝ }
     ensures { λ r. ⌜ r ≡ word (now (t .entry)) (linkAt link) ⌝ }
 {
     let at = link_word(link);
@@ -138,7 +139,7 @@ pub fn link_at(t: &[u32], link: Link) -> usize
 
 // Where the register on a side of a slot stands.
 pub fn register_at(k: usize, side: Side) -> usize
-    requires { ⌜ (1 ≤ k) × (k ≤ 4095) ⌝ }
+    requires { ⌜ (1 ≤ k) × (k ≤ mostSlots) ⌝ }
     ensures { λ r. ⌜ r ≡ registerAt k side ⌝ }
 {
     let b = Head::WORDS + Slot::WORDS * (k - 1);

@@ -8,6 +8,7 @@ use scope::Slot;
 ghost use mathlib.Core.Path.{_≡_};
 ghost use Prim.Native.Nat.{_≤_, _<_};
 ghost use lib.ListN.{length, set};
+ghost use Rattle.scope.specs.Numbers.{mostSlots};
 ghost use Rattle.scope.specs.Table.{countWord, changeWord, withSlot, linkAt, registerAt, InTable};
 ghost use Rattle.spelling.specs.Ready.{Headed};
 
@@ -29,7 +30,7 @@ pub fn put_slot(t: &mut [u32], k: usize, s: Slot)
 
 // A slot's number in a link.
 pub fn put_link(t: &mut [u32], link: Link, k: usize)
-    requires { ⌜ (link .holder ≤ 4095) × (linkAt link < length (now t)) × (k < 4294967296) ⌝ }
+    requires { ⌜ (link .holder ≤ mostSlots) × (linkAt link < length (now t)) × (k < 4294967296) ⌝ }
     ensures { λ _. ⌜ now (t .exit) ≡ set (now (t .entry)) (linkAt link) k ⌝ }
 {
     let at = link_word(link);
@@ -38,7 +39,7 @@ pub fn put_link(t: &mut [u32], link: Link, k: usize)
 
 // A link's word as it was read elsewhere.
 pub fn put_link_word(t: &mut [u32], link: Link, x: u32)
-    requires { ⌜ (link .holder ≤ 4095) × (linkAt link < length (now t)) ⌝ }
+    requires { ⌜ (link .holder ≤ mostSlots) × (linkAt link < length (now t)) ⌝ }
     ensures { λ _. ⌜ now (t .exit) ≡ set (now (t .entry)) (linkAt link) x ⌝ }
 {
     let at = link_word(link);
@@ -47,7 +48,7 @@ pub fn put_link_word(t: &mut [u32], link: Link, x: u32)
 
 // A height in a register.
 pub fn put_register(t: &mut [u32], k: usize, side: Side, height: u32)
-    requires { ⌜ (1 ≤ k) × (k ≤ 4095) × (registerAt k side < length (now t)) ⌝ }
+    requires { ⌜ (1 ≤ k) × (k ≤ mostSlots) × (registerAt k side < length (now t)) ⌝ }
     ensures { λ _. ⌜ now (t .exit) ≡ set (now (t .entry)) (registerAt k side) height ⌝ }
 {
     let at = register_at(k, side);
@@ -56,7 +57,7 @@ pub fn put_register(t: &mut [u32], k: usize, side: Side, height: u32)
 
 // How many records there are.
 pub fn put_records(t: &mut [u32], n: usize)
-    requires { ⌜ Headed (now t) × (n ≤ 4095) ⌝ }
+    requires { ⌜ Headed (now t) × (n ≤ mostSlots) ⌝ }
     ensures { λ _. ⌜ now (t .exit) ≡ set (now (t .entry)) countWord n ⌝ }
 {
     t[Head::COUNT] = n as u32;

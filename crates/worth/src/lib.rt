@@ -5,7 +5,7 @@ use scope::Slot;
 use scope::Slots;
 ghost use mathlib.Core.Path.{_≡_};
 ghost use Prim.Native.Nat.{_+_, _-_, _*_, _≤_, _<_};
-ghost use Rattle.scope.specs.Numbers.{mostSlots};
+ghost use Rattle.scope.specs.Numbers.{mostSlots, mostHeight};
 ghost use Rattle.scope.specs.Tree.{over};
 ghost use Rattle.scope.specs.Sound.{treeIn};
 ghost use Rattle.scope.specs.Worth.{gap, worthOf};
@@ -47,7 +47,7 @@ pub fn carry(out: u64, high: u64, above: u64) -> u64
 
 // What a balance weighs: twice, and once more by as much as it is over one.
 pub fn balance(p: u64) -> u64
-    requires { ⌜ p ≤ 65535 ⌝ }
+    requires { ⌜ p ≤ mostHeight ⌝ }
     ensures { λ r. ⌜ r ≡ 2 * p + (p - 1) ⌝ }
 {
     if p == 0 { 0 } else { 2 * p + (p - 1) }
