@@ -63,15 +63,3 @@ pub record Moving (h : List ℕ) (n : Nodes) (near : Side) : Type 0 where
   pub u-far : son (n .su) (other near) ≤ 4095
   pub w-near : son (n .sw) near ≤ 4095
   pub w-far : son (n .sw) (other near) ≤ 4095
-
--- a double rotation in two parts
-unfoldable pub topNoted : Side → Nodes → List ℕ → List ℕ
-topNoted s n h =
-    set (set (set h (n .w) (linkNumber (linkFor (n .link .holder) (n .link .side))))
-    (n .u) (linkNumber (linkFor (n .w) s)))
-    (n .v) (linkNumber (linkFor (n .w) (other s)))
-
-unfoldable pub lowNoted : Side → Nodes → List ℕ → List ℕ
-lowNoted s n h =
-    set (set h (son (n .sw) s) (linkNumber (linkFor (n .u) (other s))))
-    (son (n .sw) (other s)) (linkNumber (linkFor (n .v) s))

@@ -2,8 +2,8 @@
 use crate::entry::note;
 use scope::Nodes;
 use scope::Side;
-ghost use Rattle.scope.specs.Rules.{rotated, rotatedTwice};
-ghost use Rattle.tidy_holders.specs.Holds.{Entries, Moving, noted, topNoted, lowNoted};
+ghost use Rattle.scope.specs.Rules.{rotated, twiceTop, twiceSons, rotatedTwice};
+ghost use Rattle.tidy_holders.specs.Holds.{Entries, Moving, noted};
 
 // u takes v's link, v hangs at u's far side, and u's old far son at v's near one.
 pub fn turned(h: &mut [u32; 4096], n: Nodes, near: Side)
@@ -21,7 +21,7 @@ pub fn turned(h: &mut [u32; 4096], n: Nodes, near: Side)
 // w takes v's link, with u near and v far.
 pub fn top_moved(h: &mut [u32; 4096], n: Nodes, near: Side)
     requires { ⌜ Moving (now h) n near ⌝ }
-    ensures { λ _. ⌜ Entries (topNoted near n (now (h .entry))) (now (h .exit)) ⌝ }
+    ensures { λ _. ⌜ Entries (noted (twiceTop near n) (now (h .entry))) (now (h .exit)) ⌝ }
 {
     let link = n.link;
     let side = link.side;
@@ -33,7 +33,7 @@ pub fn top_moved(h: &mut [u32; 4096], n: Nodes, near: Side)
 // w's old sons hang at u's far side and v's near side.
 pub fn sons_moved(h: &mut [u32; 4096], n: Nodes, near: Side)
     requires { ⌜ Moving (now h) n near ⌝ }
-    ensures { λ _. ⌜ Entries (lowNoted near n (now (h .entry))) (now (h .exit)) ⌝ }
+    ensures { λ _. ⌜ Entries (noted (twiceSons near n) (now (h .entry))) (now (h .exit)) ⌝ }
 {
     let far = near.other();
     note(h, words::son(n.sw, near), n.u, far);

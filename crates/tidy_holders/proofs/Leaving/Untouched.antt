@@ -90,7 +90,7 @@ module _ {t : List ℕ} {c : ℕ} (z : Sized t c) (r : Rule) (n : Nodes) (a : Ar
   edits = action (r .kind) (r .side) n
 
   after : Rewritten t fired c edits
-  after = rw (action-edits r n a) (rewritten z edits (inside-there c (r .side) n l (r .kind)))
+  after = rw (action-edits r n) (rewritten z edits (inside-there c (r .side) n l (r .kind)))
 
   module _ (y : ℕ) (i : 1 ≤ y) (b : NoNode n y) where
     -- A FIRING CHANGES NO SLOT but its nodes and the holder of its link

@@ -1,11 +1,10 @@
 -- The words that a rule writes are those of its edits. Assumes nothing.
 use Prim.Native.Nat.{_≤_}
 use mathlib.Core.Path.{_≡_, refl}
-use Rattle.scope.specs.Rules.{actionAt}
 use Rattle.scope.specs.declared.rule.Rule.{Rule}
 use Rattle.scope.specs.declared.outcome.Nodes.{Nodes}
 use Rattle.scope.specs.Edits.{writes}
-use Rattle.scope.specs.Rules.{action}
+use Rattle.scope.specs.Rules.{action, actionAt}
 
 -- every node is a slot
 pub record AreSlots (n : Nodes) : Type 0 where
@@ -14,6 +13,6 @@ pub record AreSlots (n : Nodes) : Type 0 where
   pub w : 1 ≤ n .w
 
 -- the words of an action are those of its edits
-pub action-edits : (r : Rule) (n : Nodes) → AreSlots n → actionAt r n ≡ writes (action (r .kind) (r .side) n)
+pub action-edits : (r : Rule) (n : Nodes) → actionAt r n ≡ writes (action (r .kind) (r .side) n)
 unfolding actionAt
-action-edits r n i = refl
+action-edits r n = refl

@@ -49,7 +49,7 @@ module _ {t : List ℕ} {c : ℕ} (wh : Whole t c) (l : Link) (i : LinkIn c l) {
 
   pub fired-holds : (r : Rule) → AreSlots (at r)
       → AllNoted (written t (actionAt r (at r))) c (noted (action (r .kind) (r .side) (at r)) h)
-  fired-holds r j = rw (action-edits r (at r) j) (edited-holds (r .kind) (r .side) j)
+  fired-holds r j = rw (action-edits r (at r)) (edited-holds (r .kind) (r .side) j)
 
 -- what comes out on the tree too leaves the table sound
 whole-after : (t : List ℕ) (c : ℕ) (T : Tree) (r : Rule) (n : Nodes) (g a : Option Tree)

@@ -11,11 +11,10 @@ use Rattle.scope.specs.declared.side.Side.the-variants.{Left, Right}
 use Rattle.scope.specs.declared.rule.Kind.{Kind}
 use Rattle.scope.specs.declared.rule.Kind.the-variants.{Propagate}
 use Rattle.scope.specs.declared.outcome.Nodes.{Nodes}
-use Rattle.scope.specs.Rules.{rotated, rotatedTwice}
+use Rattle.scope.specs.Rules.{rotated, twiceTop, twiceSons, rotatedTwice, action}
 use Rattle.tidy_holders.specs.Codes.{linkFor, linkNumber}
 use Rattle.tidy_holders.specs.Holds.{Entries, Noting, Sons, Moving}
-use Rattle.tidy_holders.specs.Holds.{noted, notedPart, topNoted, lowNoted, sonsNoted}
-use Rattle.scope.specs.Rules.{action}
+use Rattle.tidy_holders.specs.Holds.{noted, notedPart, sonsNoted}
 
 pub entry-noted : {h : List ℕ} {k holder x y : ℕ} → Noting h k holder → x ≡ y → Entries (set h k y) (set h k x)
 entry-noted {h} {k} {holder} {x} n e = record { is = rw e; room = length-set h k x ∙ n .room }
@@ -37,21 +36,21 @@ module _ {h : List ℕ} {n : Nodes} {near far : Side} (m : Moving h n near) (e :
 
   pub top-noted : {h3 : List ℕ} → Entries (set h (n .w) (linkNumber (linkFor (n .link .holder) (n .link .side)))) h1
       → Entries (set h1 (n .u) (linkNumber (linkFor (n .w) near))) h2
-      → Entries (set h2 (n .v) (linkNumber (linkFor (n .w) far))) h3 → Entries (topNoted near n h) h3
-  unfolding topNoted
+      → Entries (set h2 (n .v) (linkNumber (linkFor (n .w) far))) h3 → Entries (noted (twiceTop near n) h) h3
+  unfolding noted notedPart
   top-noted a b d = record { is = d .is ∙ rw (b .is, a .is, e) refl; room = d .room }
 
   pub low-noted : {j k : ℕ} → j ≡ son (n .sw) near → k ≡ son (n .sw) far
       → Entries (set h j (linkNumber (linkFor (n .u) far))) h1
-      → Entries (set h1 k (linkNumber (linkFor (n .v) near))) h2 → Entries (lowNoted near n h) h2
-  unfolding lowNoted
+      → Entries (set h1 k (linkNumber (linkFor (n .v) near))) h2 → Entries (noted (twiceSons near n) h) h2
+  unfolding noted notedPart
   low-noted p q a b = record { is = b .is ∙ rw (a .is, q, p, e) refl; room = b .room }
 
 module _ {h : List ℕ} {n : Nodes} {near : Side} (m : Moving h n near) where
   -- a double rotation, its upper part and then its lower
-  pub twice-noted : {h1 h2 : List ℕ} → Entries (topNoted near n h) h1 → Entries (lowNoted near n h1) h2
+  pub twice-noted : {h1 h2 : List ℕ} → Entries (noted (twiceTop near n) h) h1 → Entries (noted (twiceSons near n) h1) h2
       → Entries (noted (rotatedTwice near n) h) h2
-  unfolding noted notedPart topNoted lowNoted
+  unfolding noted notedPart
   twice-noted a b = record { is = b .is ∙ rw (a .is) refl; room = b .room }
 
   -- what is asked stays
