@@ -102,8 +102,8 @@ sizes h d = ap size (d .whole (h .slots) (h .tree) (h .reached))
 
 -- the tree of a sound table hangs at its root, as the code reads it
 module _ {t : List ℕ} {c x : ℕ} (w : Whole t c) (ex : x ≡ word t rootWord) where
-  pub rooted : {n : ℕ} → n ≡ word t countWord → FewHang t n x
-  rooted en = rw (en, ex) (record {
+  pub root-hangs : {n : ℕ} → n ≡ word t countWord → FewHang t n x
+  root-hangs en = rw (en, ex) (record {
     slots = c;
     sized = w .sized;
     link = header-root c t (w .sound .header);

@@ -14,7 +14,7 @@ use Rattle.spelling.specs.Whole.{Whole}
 use Rattle.spelling.proofs.Laws.{header-count}
 use Rattle.spelling.proofs.Spell.{tree-in}
 use Rattle.fork.specs.declared.Fork.{Fork}
-use Rattle.fork.proofs.Down.{Forked, sizes, said-at, says-leaf, says-fork, rooted, said}
+use Rattle.fork.proofs.Down.{Forked, sizes, said-at, says-leaf, says-fork, root-hangs, said}
 use Rattle.fork.proofs.Order.{order-node}
 use Rattle.in_order.specs.Listed.{Roomy, Written, InOrder}
 
@@ -85,11 +85,11 @@ module _ {t : List ℕ} {c x : ℕ} (w : Whole t c) (ex : x ≡ word t rootWord)
 
   pub whole-room : {n : ℕ} {list : List ℕ} → n ≡ word t countWord → c ≤ length list → Roomy t n x list 0
   whole-room en le =
-      let h = rooted w ex en in
+      let h = root-hangs w ex en in
       record { hangs = h; room = omega (arith, h .few, en, header-count c t (w .sound .header), le) }
 
-  pub all-listed : {old new : List ℕ} {n : ℕ} → c ≤ length new → Written t old x 0 new n → InOrder t c new n
-  all-listed {old} le r = record {
+  pub all-in-order : {old new : List ℕ} {n : ℕ} → c ≤ length new → Written t old x 0 new n → InOrder t c new n
+  all-in-order {old} le r = record {
     is = said w ex (λ (T : Tree). take 0 old ++ slotsInOrder T) (r .slots);
     within = omega (arith, said w ex (λ (T : Tree). 0 + size T) (r .place), counted, le);
   }

@@ -90,8 +90,8 @@ module _ {t : List ℕ} {more x w n : ℕ} {f : Fork} (h : FewHang t more x) (d 
     says = rw (at-in w lt) (rank-left d (omega arith) (s .says) (at-in w lt));
   }
 
-  pub seek-here : n ≡ firstRank → Seeks t x w x
-  seek-here e = record {
+  pub seek-found : n ≡ firstRank → Seeks t x w x
+  seek-found e = record {
     most = omega (arith, h .link, h .sized .most);
     says = rw (at-in w {n = x} (omega (arith, h .link, h .sized .most)))
         (rank-here d (omega arith) (s .says) (past-in w (omega arith)) (omega arith));

@@ -20,13 +20,13 @@ first side i = getD (getD (map side bites) i []) 0 0
 bite : (i : ℕ) → first (λ r. r .given) i ≡ first (λ r. r .stated) i
 bite i = ap (λ (ls : List (List ℕ)). getD (getD ls i []) 0 0) (computed .bites-hold)
 
-abbrev codeOf : Answer → ℕ
-codeOf a = a .code
+abbrev answerCode : Answer → ℕ
+answerCode a = a .code
 
 -- a find with one fixed reply
 pub no-fixed-find : (r : Answer) → Promise (Find 5) none-yet r none-yet → Promise (Find 5) one r one → ⊥
 unfolding answers
-no-fixed-find r p q = omega (arith, bite 0, bite 1, ap codeOf (p .0), ap codeOf (q .0))
+no-fixed-find r p q = omega (arith, bite 0, bite 1, ap answerCode (p .0), ap answerCode (q .0))
 
 -- a post that writes nothing
 pub no-idle-post : (r : Answer) → Promise (Post 5 1 1) none-yet r none-yet → ⊥
@@ -38,7 +38,7 @@ no-idle-post r p =
 pub no-refusing-fire : (why : Refusal) (u : List ℕ) → (refusal why .code ≡ 0 → ⊥)
     → Promise (Fire 2 0 0) two (refusal why) u → ⊥
 unfolding answers
-no-refusing-fire why u ne p = ne (ap codeOf (p .0) ∙ bite 3)
+no-refusing-fire why u ne p = ne (ap answerCode (p .0) ∙ bite 3)
 
 -- a fire that writes nothing
 pub no-idle-fire : (r : Answer) → Promise (Fire 2 0 0) two r two → ⊥

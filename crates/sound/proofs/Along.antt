@@ -5,7 +5,7 @@ use mathlib.Core.List.{List}
 use native.Mathlib.Omega.{arith}
 use Rattle.scope.specs.declared.outcome.Scan.{Scan}
 use Rattle.sound.specs.Scan.{Scanning, Welcome, EnteredSlot, Good, Scanned, scanOf, spoiled}
-use Rattle.sound.proofs.Steps.{at-end, no-room, refused, left-in, right-in, left-refused, right-part}
+use Rattle.sound.proofs.Steps.{at-end, room-spent, slot-refused, left-in, right-in, left-refused, right-part}
 use Rattle.sound.proofs.Steps.{is-spoiled, was-spoiled, is-left, was-left}
 
 -- the scan of x has come to slot `at`, with these marks, this lower bound, and so few slots that may still be reached
@@ -26,13 +26,13 @@ module _ {t m₀ : List ℕ} {c more x low high : ℕ} where
     pub along-spent : (m' : List ℕ) → few ≡ 0 → Scanned t m₀ m' c more x low high (scanOf spoiled)
     along-spent m' e =
         v .whole m' (scanOf spoiled)
-        (is-spoiled t m m' c few at from high (no-room t m c at from high few (v .there) place e))
+        (is-spoiled t m m' c few at from high (room-spent t m c at from high few (v .there) place e))
 
     pub along-refused : (m' : List ℕ) → (Welcome t m c at from high → ⊥)
         → Scanned t m₀ m' c more x low high (scanOf spoiled)
     along-refused m' d =
         v .whole m' (scanOf spoiled)
-        (is-spoiled t m m' c few at from high (refused t m c at from high few (v .there) place d))
+        (is-spoiled t m m' c few at from high (slot-refused t m c at from high few (v .there) place d))
 
     -- the slot was entered
     module _ {m₁ : List ℕ} {l r k : ℕ} (o : EnteredSlot t m m₁ c at from high l r k) where

@@ -29,9 +29,9 @@ pub record PlacedBetween (c : ℕ) (s : Slot) (low high : ℕ) : Type 0 where
   pub over : low < s .key
   pub under : s .key < high
 
-pub placed : (c : ℕ) (s : Slot) (low high : ℕ) → inPlace c s low high ≡ true → PlacedBetween c s low high
+pub placed-between : (c : ℕ) (s : Slot) (low high : ℕ) → inPlace c s low high ≡ true → PlacedBetween c s low high
 unfolding inPlace
-placed c s low high e =
+placed-between c s low high e =
     let p = and-l (fitSlot c s && ltb low (s .key)) _ e in
     record {
       fit = and-l _ _ p;
@@ -52,9 +52,9 @@ module _ {t m : List ℕ} {c x low high : ℕ} {a : Bool} (ea : a ≡ eqb (bitAt
     pub misplaced : b ≡ false → Welcome t m c x low high → ⊥
     misplaced p w = neither (w .place) (ap (λ (v : Slot). inPlace c v low high) (sym es) ∙ sym eb ∙ p)
 
-    pub entered : {m' : List ℕ} {l r k : ℕ} → a ≡ false → b ≡ true → Marked m x m'
+    pub slot-entered : {m' : List ℕ} {l r k : ℕ} → a ≡ false → b ≡ true → Marked m x m'
         → l ≡ s .left → r ≡ s .right → k ≡ s .key → EnteredSlot t m m' c x low high l r k
-    entered p q mark l r k = record {
+    slot-entered p q mark l r k = record {
       welcome = record {
         free = unmarked m x (sym ea ∙ p);
         place = ap (λ (v : Slot). inPlace c v low high) (sym es) ∙ sym eb ∙ q;
@@ -68,7 +68,7 @@ module _ {t m : List ℕ} {c x low high : ℕ} {a : Bool} (ea : a ≡ eqb (bitAt
 -- a slot that was entered is in its place, and its links lead into the table
 module _ {t m m' : List ℕ} {c x low high l r k : ℕ} (o : EnteredSlot t m m' c x low high l r k) where
   here : PlacedBetween c (slotAt t x) low high
-  here = placed c (slotAt t x) low high (o .welcome .place)
+  here = placed-between c (slotAt t x) low high (o .welcome .place)
 
   pub left-in : l ≤ c
   left-in = omega (arith, o .left, fit-left c (slotAt t x) (here .fit))
@@ -102,11 +102,11 @@ module _ (t m : List ℕ) (c x low high : ℕ) where
   top-holds f = f .reached .holds
 
   -- a tree at slot x is taken apart
-  pub apart : (T : Tree) → 1 ≤ x → Fine t m c x low high T
+  pub taken-apart : (T : Tree) → 1 ≤ x → Fine t m c x low high T
       → (l : Tree) × (r : Tree) × Parts t m c x low high l r × (size T ≡ suc (size l + size r))
   unfolding Spells size
-  apart leaf p f = absurd (omega (arith, f .reached))
-  apart (node d a b l r) p f =
+  taken-apart leaf p f = absurd (omega (arith, f .reached))
+  taken-apart (node d a b l r) p f =
       (l, r, parts-at a b l r (subst (λ (e : Batch). Fine t m c x low high (node e a b l r)) (top-holds f) f), refl)
 
   -- and put together
@@ -145,12 +145,12 @@ module _ (t m : List ℕ) (c x low high : ℕ) where
 
   module _ (more : ℕ) (p : 1 ≤ x) (h : x < 4096) where
     -- no slot may be reached any more
-    pub no-room : more ≡ 0 → (T : Tree) → Fine t m c x low high T → size T ≤ more → ⊥
-    no-room e T f s = omega (arith, apart T p f .3)
+    pub room-spent : more ≡ 0 → (T : Tree) → Fine t m c x low high T → size T ≤ more → ⊥
+    room-spent e T f s = omega (arith, taken-apart T p f .3)
 
     -- the slot is refused
-    pub refused : (Welcome t m c x low high → ⊥) → (T : Tree) → Fine t m c x low high T → size T ≤ more → ⊥
-    refused none′ T f s = let (L, R, q, e) = apart T p f in none′ (welcome L R h q)
+    pub slot-refused : (Welcome t m c x low high → ⊥) → (T : Tree) → Fine t m c x low high T → size T ≤ more → ⊥
+    slot-refused none′ T f s = let (L, R, q, e) = taken-apart T p f in none′ (welcome L R h q)
 
     module _ (m₁ : List ℕ) (l r k : ℕ) (o : EnteredSlot t m m₁ c x low high l r k) where
       -- the left side, as the scan of it finds it
@@ -163,13 +163,13 @@ module _ (t m : List ℕ) (c x low high : ℕ) where
 
       pub left-refused : ((T : Tree) → Fine t m₁ c l low k T → size T ≤ more - 1 → ⊥)
           → (T : Tree) → Fine t m c x low high T → size T ≤ more → ⊥
-      left-refused none′ T f s = let (L, R, q, e) = apart T p f in none′ L (left-fine L R q) (omega arith)
+      left-refused none′ T f s = let (L, R, q, e) = taken-apart T p f in none′ L (left-fine L R q) (omega arith)
 
       module _ (m₂ m₃ : List ℕ) (n : ℕ) (g : Good t m₁ m₂ c (more - 1) l low k n) (pos : 1 ≤ more) where
         right-refused : ((T : Tree) → Fine t m₂ c r k high T → size T ≤ n → ⊥)
             → (T : Tree) → Fine t m c x low high T → size T ≤ more → ⊥
         right-refused none′ T f s =
-            let (L, R, q, e) = apart T p f in
+            let (L, R, q, e) = taken-apart T p f in
             let one : L ≡ g .tree = unique t c c l L (g .tree) (left-fine L R q .reached) (g .fine .reached) in
             none′ R
             (record {

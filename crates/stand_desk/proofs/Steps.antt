@@ -21,12 +21,12 @@ unfolding replyOf tableAfter
 done t w x e p = rw e (ap Say (p .0), p .1)
 
 -- what was put is what the line prints
-pub stepped : {old new : List ℕ} {at n : ℕ} (t u line : List ℕ) (command : Command) (r : Reply)
+pub step-printed : {old new : List ℕ} {at n : ℕ} (t u line : List ℕ) (command : Command) (r : Reply)
     → command ≡ commandOf line → r ≡ replyOf t (wishOf command) → u ≡ tableAfter t (wishOf command)
     → length u ≡ length t → PutIn old at (replyText u r) new n (listRoom (length u))
     → PutIn old at (stepText t line) new n (listRoom (length t))
 unfolding stepText stepTable
-stepped t u line command r e p q l x =
+step-printed t u line command r e p q l x =
     let wish = wishOf (commandOf line) in
     let z : replyText u r ≡ replyText (tableAfter t wish) (replyOf t wish) = cc in
     record { put = rw z at (x .put); within = omega (arith, x .within, l) }

@@ -32,11 +32,11 @@ put-front {old} {text} {new} {at} {next} x h =
     ap (take next) (x .holds ∙ laid-is old at text (omega (arith, x .place))) ∙ take-at (take at old ++ text) _ next l
 
 -- ONE LINE MORE: WHAT IT PRINTS STANDS BEHIND THE REST, AND THE NEXT LINE BEGINS AFTER ITS NEWLINE
-pub one-more : {t s u out v new : List ℕ} {from next at end n room : ℕ} → FillGoing t s from u out next at → next < length s
+pub one-filled : {t s u out v new : List ℕ} {from next at end n room : ℕ} → FillGoing t s from u out next at → next < length s
     → LineEnds s next end → PutIn out at (stepText u (lineAt s next end)) new n room
     → v ≡ stepTable u (lineAt s next end) → at + room ≤ length out → length new ≡ length out
     → FillGoing t s from v new (end + 1) n
-one-more {t} {s} {u} {out} {v} {new} {from} {next} {at} {end} {n} {room} g h e x q r k =
+one-filled {t} {s} {u} {out} {v} {new} {from} {next} {at} {end} {n} {room} g h e x q r k =
     let w = stepText u (lineAt s next end) in
     let y = wholeRun v (drop (end + 1) s) in
     let p : wholeRun u (drop next s) ≡ afterText w y = rw q (next-line u s next end h e) in

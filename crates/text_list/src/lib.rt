@@ -29,7 +29,7 @@ fn put_all(t: &[u32], c: usize, list: &[usize], n: usize, out: &mut [u8], at: us
 }
 
 // Puts the lines of all records of a sound table: they are listed by one walk, and printed from the list.
-fn put_records(t: &[u32], c: usize, out: &mut [u8], at: usize) -> usize
+fn put_lines(t: &[u32], c: usize, out: &mut [u8], at: usize) -> usize
     requires { ⌜ Whole (now t) c × (at + recordRoom * c ≤ length (now out)) ⌝ }
     ensures { λ p. ⌜ PutIn (now (out .entry)) at (allLines (now (t .entry)) c) (now (out .exit)) p (recordRoom * c) ⌝ }
 {
@@ -39,7 +39,7 @@ fn put_records(t: &[u32], c: usize, out: &mut [u8], at: usize) -> usize
 }
 
 // What list answers: the count and the root.
-fn answer(t: &[u32]) -> Answer
+fn list_answer(t: &[u32]) -> Answer
     requires { ⌜ Headed (now t) ⌝ }
     ensures { λ r. ⌜ r ≡ listAnswer (now (t .entry)) ⌝ }
 {
@@ -54,8 +54,8 @@ fn put_listed(t: &[u32], c: usize, out: &mut [u8], at: usize) -> usize
     ensures { λ n. ⌜ PutIn (now (out .entry)) at (listed (now (t .entry)) c) (now (out .exit)) n
         (answerRoom + recordRoom * c) ⌝ }
 {
-    let p = text_print::put_answer(out, at, answer(t));
-    put_records(t, c, out, p)
+    let p = text_print::put_answer(out, at, list_answer(t));
+    put_lines(t, c, out, p)
 }
 
 // Puts what list prints: the place after it.

@@ -95,9 +95,9 @@ module _ {m : List ℕ} (a : Agenda m) (k : ℕ) (h : k < 4096) where
   abbrev w : ℕ
   w = getD m (k / 64) 0
 
-  pub listed : (let m₁ = set m (k / 64) (bitOr w (2 ^ (k % 64))) in
+  pub newly-listed : (let m₁ = set m (k / 64) (bitOr w (2 ^ (k % 64))) in
       Listed m k (set m₁ 64 (bitOr (getD m₁ 64 0) (2 ^ (k / 64)))))
-  listed =
+  newly-listed =
       let x = bitOr w (2 ^ (k % 64)) in
       let top = getD (set m (k / 64) x) 64 0 in
       put-above a k h x 1 (set-same w (k % 64)) (λ i. set-other w (k % 64) i) (bitOr top (2 ^ (k / 64)))

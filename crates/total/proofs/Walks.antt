@@ -81,15 +81,15 @@ module _ {t : List ℕ} {more x sum : ℕ} {f : Fork} (g : Adding t more x sum) 
   own-few : own ≤ 1000000
   own-few = omega (arith, eo, own-most (leb (f .slot .key) K) (f .slot .pieces), pieces-most (d .c) (f .slot) (d .fit))
 
-  pub left-room : Adding t (more - 1) (f .left) (sum + own)
-  left-room = record { hangs = d .on-left; room = omega (arith, g .room, sizes (g .hangs) d, own-few) }
+  pub adding-left : Adding t (more - 1) (f .left) (sum + own)
+  adding-left = record { hangs = d .on-left; room = omega (arith, g .room, sizes (g .hangs) d, own-few) }
 
   module _ {a : ℕ} (sa : Says t (f .left) (totalOn (sum + own) K) a) where
     on-left : a ≡ sum + own + totalOf K (d .on-left .tree)
     on-left = said-at (d .on-left) (totalOn (sum + own) K) sa
 
-    pub right-room : Adding t (more - 1) (f .right) a
-    right-room =
+    pub adding-right : Adding t (more - 1) (f .right) a
+    adding-right =
         let l = d .on-left in
         let few = total-most t (l .slots) K (f .left) (l .tree) (l .reached) in
         record { hangs = d .on-right; room = omega (arith, g .room, sizes (g .hangs) d, own-few, on-left, few) }

@@ -27,11 +27,11 @@ onTop Right (node d a b l r) f = f d (pair b a) r l
 
 -- what the actions make of v over its near son u, and of v, u and u's far son w
 module _ (s : Side) (dv du : Batch) (v u : Pair) where
-  abbrev pub propagated : Tree → Tree → Tree → Tree
-  propagated m n c = mk s dv (pair (localh u) (v .far)) (mk s du u m n) c
+  abbrev pub propagatedTree : Tree → Tree → Tree → Tree
+  propagatedTree m n c = mk s dv (pair (localh u) (v .far)) (mk s du u m n) c
 
-  abbrev pub rotated : Tree → Tree → Tree → Tree
-  rotated m n c = mk s du (pair (u .near) (localh (turnedV v u))) m (mk s dv (turnedV v u) n c)
+  abbrev pub rotatedTree : Tree → Tree → Tree → Tree
+  rotatedTree m n c = mk s du (pair (u .near) (localh (turnedV v u))) m (mk s dv (turnedV v u) n c)
 
   abbrev pub doubled : Batch → Pair → Tree → Tree → Tree → Tree → Tree
   doubled dw w m e f c =
@@ -58,9 +58,9 @@ overNear s d x (some near) far = some (mk s d x near far)
 module _ (test : Test) where
   -- the rules where v and u are there
   abbrev pub act : Kind → Side → Batch → Pair → Tree → Batch → Pair → Tree → Tree → Option Tree
-  act Propagate s dv v c du u m n = when (test Propagate v u u) (propagated s dv du v u m n c)
-  act Lean s dv v c du u m n = when (test Lean v u u) (rotated s dv du v u m n c)
-  act Even s dv v c du u m n = when (test Even v u u) (rotated s dv du v u m n c)
+  act Propagate s dv v c du u m n = when (test Propagate v u u) (propagatedTree s dv du v u m n c)
+  act Lean s dv v c du u m n = when (test Lean v u u) (rotatedTree s dv du v u m n c)
+  act Even s dv v c du u m n = when (test Even v u u) (rotatedTree s dv du v u m n c)
   act Double s dv v c du u m n =
       onTop s n (λ dw w e f. when (test Double v u w) (doubled s dv du v u dw w m e f c))
 

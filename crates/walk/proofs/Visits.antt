@@ -116,9 +116,9 @@ module _ {t : List ℕ} {c key : ℕ} where
             inside = (omega (arith, some), h .at-le, h .holder-le, omega arith, more);
           }
 
-      pub passes : not b ≡ false → (key ≡ s .key → ⊥)
+      pub passes-on : not b ≡ false → (key ≡ s .key → ⊥)
           → Heading t c key next (record { holder = at; side = side }) (seen + 1)
-      passes n other =
+      passes-on n other =
           let f : fitSlot c s ≡ true = sym asked ∙ not-false b n in
           record {
             rest = rw (led, turned) (rw (leads c key s f other) at visited);

@@ -26,15 +26,15 @@ use Rattle.scope.specs.declared.outcome.Nodes.{Nodes}
 use Rattle.scope.specs.declared.outcome.Taken.the-variants.{Got, Not}
 use Rattle.scope.specs.declared.outcome.Firing.{Firing}
 use Rattle.scope.specs.declared.outcome.Firing.the-variants.{Refuse}
-use Rattle.tree.specs.Rewrite.{mk, ruleOn, Test, when, within, rewriteTop, fireTop, propagated, rotated, doubled}
+use Rattle.tree.specs.Rewrite.{mk, ruleOn, Test, when, within, rewriteTop, fireTop, propagatedTree, rotatedTree, doubled}
 use Rattle.tree.proofs.Firing.Steps.{by-side, top-is}
 use Rattle.tree.proofs.Firing.Sides.{times-mk}
 use Rattle.bridge.specs.Below.{Hangs, ChangedBelow}
 use Rattle.bridge.specs.Alike.{guard-fails, too-high, Alike}
 use Rattle.bridge.proofs.Links.Looks.{Looks, look}
 use Rattle.bridge.proofs.Links.Outside.{same-one, StandsIn}
-use Rattle.bridge.proofs.Firing.Turns.{look-v, look-u, v-in, u-in, x-y, not-holder, both, propagate-below, rotate-below}
-use Rattle.bridge.proofs.Firing.Twice.{look-w, w-in, x-z, y-z, three, twice-below}
+use Rattle.bridge.proofs.Firing.Turns.{look-v, look-u, v-in, u-in, x-y, not-holder, twoNodes, propagate-below, rotate-below}
+use Rattle.bridge.proofs.Firing.Twice.{look-w, w-in, x-z, y-z, threeNodes, twice-below}
 
 -- a node that is none of the slots before it is taken
 take-got : {t : List ℕ} {c x : ℕ} {s : Side} {d : Batch} {p : Pair} {near far : Tree} → Looks t c x s d p near far
@@ -118,7 +118,7 @@ module _ (t : List ℕ) (c : ℕ) (l : Link) where
     apart j i = not-holder l s dv du v u m n far h j (i .once)
 
     abbrev pub pairs : Nodes
-    pairs = both l s dv du v u m n far h (y s) (slotAt t (y s))
+    pairs = twoNodes l s dv du v u m n far h (y s) (slotAt t (y s))
 
     aims : (k : Kind) → hasThird k ≡ false → aimV t c (ruleOn k s) l ≡ judged (ruleOn k s) pairs
     aims k e =
@@ -147,19 +147,19 @@ module _ (t : List ℕ) (c : ℕ) (l : Link) where
     propagate-same : Same Propagate
     unfolding rewriteTop actionAt
     propagate-same =
-        single Propagate refl (propagated s dv du v u m n far) (λ test. simp top-is)
+        single Propagate refl (propagatedTree s dv du v u m n far) (λ test. simp top-is)
         (propagate-below l s dv du v u m n far h (y s) (slotAt t (y s)))
 
     lean-same : Same Lean
     unfolding rewriteTop actionAt
     lean-same =
-        single Lean refl (rotated s dv du v u m n far) (λ test. simp top-is)
+        single Lean refl (rotatedTree s dv du v u m n far) (λ test. simp top-is)
         (rotate-below l s dv du v u m n far h (y s) (slotAt t (y s)))
 
     even-same : Same Even
     unfolding rewriteTop actionAt
     even-same =
-        single Even refl (rotated s dv du v u m n far) (λ test. simp top-is)
+        single Even refl (rotatedTree s dv du v u m n far) (λ test. simp top-is)
         (rotate-below l s dv du v u m n far h (y s) (slotAt t (y s)))
 
   -- w is missing, or there
@@ -197,7 +197,7 @@ module _ (t : List ℕ) (c : ℕ) (l : Link) where
           alike-by t _ (top guard) (top (within mostHeight))
           (aims-on s dv du v u m (mk s dw w e f) far h
           ∙ got-third a ne (λ q. x-z l s dv du dw v u w m e f far h (sym q)) (λ q. y-z l s dv du dw v u w m e f far h (sym q)))
-          (judge t _ Double s (three l s dv du dw v u w m e f far h) v u w (doubled s dv du v u dw w m e f far)
+          (judge t _ Double s (threeNodes l s dv du dw v u w m e f far h) v u w (doubled s dv du v u dw w m e f far)
           (look-v l s dv du v u m (mk s dw w e f) far h .registers) (look-u l s dv du v u m (mk s dw w e f) far h .registers)
           (a .registers) (twice-below l s dv du dw v u w m e f far h))
 

@@ -80,8 +80,8 @@ module _ {t : List ℕ} {c : ℕ} (l : Link) (s : Side) (dv du dw : Batch) (v u 
   apart : (k : ℕ) → StandsIn c whole k → k ≡ l .holder → ⊥
   apart k i = not-holder l s dv du v u m n far h k (i .once)
 
-  abbrev pub three : Nodes
-  three = record { link = l; v = x; u = y; w = z; sv = slotAt t x; su = slotAt t y; sw = slotAt t z }
+  abbrev pub threeNodes : Nodes
+  threeNodes = record { link = l; v = x; u = y; w = z; sv = slotAt t x; su = slotAt t y; sw = slotAt t z }
 
   -- all but the link's
   abbrev turns : List Edit
@@ -99,14 +99,14 @@ module _ {t : List ℕ} {c : ℕ} (l : Link) (s : Side) (dv du dw : Batch) (v u 
   twice-in : InTree c whole turns
   twice-in = (w-in, (w-in, (in-u, (in-v, (in-u, (in-v, (w-in, (w-in, tt))))))))
 
-  module _ {t′ : List ℕ} (r : Rewritten t t′ c (rotatedTwice s three))
+  module _ {t′ : List ℕ} (r : Rewritten t t′ c (rotatedTwice s threeNodes))
       (lowU : localh (doubledU u w) ≤ mostHeight) (lowV : localh (doubledV v w) ≤ mostHeight) where
     slot-v : slotAt t′ x
         ≡ shape s (slotAt t x) (son (slotAt t z) (other s)) (son (slotAt t x) (other s))
         (doubledV (seen s (slotAt t x)) (seen s (slotAt t z)))
     unfolding edited
     slot-v =
-        r .slots x (lv .there) ∙ ap (edited (rotatedTwice s three) x) (sym (shape-self s (slotAt t x)))
+        r .slots x (lv .there) ∙ ap (edited (rotatedTwice s threeNodes) x) (sym (shape-self s (slotAt t x)))
         ∙ simp (
           ne-eqb x (l .holder) (apart x in-v),
           ne-eqb x y (x-y l s dv du v u m n far h),
@@ -120,7 +120,7 @@ module _ {t : List ℕ} {c : ℕ} (l : Link) (s : Side) (dv du dw : Batch) (v u 
         ≡ shape s (slotAt t y) (son (slotAt t y) s) (son (slotAt t z) s) (doubledU (seen s (slotAt t y)) (seen s (slotAt t z)))
     unfolding edited
     slot-u =
-        r .slots y (lu .there) ∙ ap (edited (rotatedTwice s three) y) (sym (shape-self s (slotAt t y)))
+        r .slots y (lu .there) ∙ ap (edited (rotatedTwice s threeNodes) y) (sym (shape-self s (slotAt t y)))
         ∙ simp (
           ne-eqb y (l .holder) (apart y in-u),
           ne-eqb y x (λ q. x-y l s dv du v u m n far h (sym q)),
@@ -136,7 +136,7 @@ module _ {t : List ℕ} {c : ℕ} (l : Link) (s : Side) (dv du dw : Batch) (v u 
         (localh (doubledV (seen s (slotAt t x)) (seen s (slotAt t z)))))
     unfolding edited
     slot-w =
-        r .slots z (look-w .there) ∙ ap (edited (rotatedTwice s three) z) (sym (shape-self s (slotAt t z)))
+        r .slots z (look-w .there) ∙ ap (edited (rotatedTwice s threeNodes) z) (sym (shape-self s (slotAt t z)))
         ∙ simp (
           ne-eqb z (l .holder) (apart z w-in),
           ne-eqb z x (λ q. x-z (sym q)),
@@ -148,7 +148,7 @@ module _ {t : List ℕ} {c : ℕ} (l : Link) (s : Side) (dv du dw : Batch) (v u 
           far-register,
         )
 
-    away : (k : ℕ) → 1 ≤ times k m + times k e + times k f + times k far → Away k (rotatedTwice s three)
+    away : (k : ℕ) → 1 ≤ times k m + times k e + times k f + times k far → Away k (rotatedTwice s threeNodes)
     away k i =
         let nx : k ≡ x → ⊥ = λ q. omega (arith, sum k, h .once k, same-one k x q) in
         let ny : k ≡ y → ⊥ = λ q. omega (arith, sum k, h .once k, same-one k y q) in
@@ -169,17 +169,17 @@ module _ {t : List ℕ} {c : ℕ} (l : Link) (s : Side) (dv du dw : Batch) (v u 
         (look-w .holds)
         (spell t′ c y du _ m e s (slotAt t y) _ _ (lu .there) slot-u
         (fu .other-links _ _ _ (fu .near) (fw .near)) (lu .holds)
-        (stays (rotatedTwice s three) r _ m (λ k i. away k (omega arith)) (lu .nearSon))
-        (stays (rotatedTwice s three) r _ e (λ k i. away k (omega arith)) (look-w .nearSon)))
+        (stays (rotatedTwice s threeNodes) r _ m (λ k i. away k (omega arith)) (lu .nearSon))
+        (stays (rotatedTwice s threeNodes) r _ e (λ k i. away k (omega arith)) (look-w .nearSon)))
         (spell t′ c x dv _ f far s (slotAt t x) _ _ (lv .there) slot-v
         (fv .other-links _ _ _ (fw .far) (fv .far)) (lv .holds)
-        (stays (rotatedTwice s three) r _ f (λ k i. away k (omega arith)) (look-w .farSon))
-        (stays (rotatedTwice s three) r _ far (λ k i. away k (omega arith)) (lv .farSon))))
+        (stays (rotatedTwice s threeNodes) r _ f (λ k i. away k (omega arith)) (look-w .farSon))
+        (stays (rotatedTwice s threeNodes) r _ far (λ k i. away k (omega arith)) (lv .farSon))))
 
   pub twice-below : max (localh (doubledU u w)) (localh (doubledV v w)) ≤ mostHeight
-      → ChangedBelow t (written t (writes (rotatedTwice s three))) c l whole (doubled s dv du v u dw w m e f far)
+      → ChangedBelow t (written t (writes (rotatedTwice s threeNodes))) c l whole (doubled s dv du v u dw w m e f far)
   twice-below low =
-      let r = rewritten (h .sized) (rotatedTwice s three) (h .holder, in-inside c _ turns twice-in) in
+      let r = rewritten (h .sized) (rotatedTwice s threeNodes) (h .holder, in-inside c _ turns twice-in) in
       let lowU : localh (doubledU u w) ≤ mostHeight = omega arith in
       let lowV : localh (doubledV v w) ≤ mostHeight = omega arith in
       (record {

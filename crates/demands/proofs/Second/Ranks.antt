@@ -36,12 +36,12 @@ spelled-stand t c x (node d a b l r) p =
     stand-append t (inOrder l) (d ∷ inOrder r) (spelled-stand t c (slotAt t x .left) l (p .left))
     (rw (← at) (p .there), p .holds ∙ ap (batchAt t) at, spelled-stand t c (slotAt t x .right) r (p .right))
 
-abbrev slotOf : Batch → ℕ
-slotOf d = d .slot
+abbrev batchSlot : Batch → ℕ
+batchSlot d = d .slot
 
 -- the n-th slot, counted from 0, holds the record with one rank more
 nth-stands : (t : List ℕ) (ds : List Batch) (n : ℕ) → Stand t ds → suc n ≤ length ds
-    → standing t (getD (map slotOf ds) n 0) ≡ nth (suc n) (map entryOf ds)
+    → standing t (getD (map batchSlot ds) n 0) ≡ nth (suc n) (map entryOf ds)
 unfolding nth
 nth-stands t [] n s h = absurd (omega arith)
 nth-stands t (d ∷ ds) zero s h =
@@ -69,12 +69,12 @@ module _ {t : List ℕ} {c : ℕ} (w : Whole t c) (r : ℕ) where
   unfolding ranked rankOf pick
   picked i =
       let s = spelled-stand t c (word t rootWord) (treeIn t c) (own-tree w .sound .reached) in
-      let long = length-map ds slotOf in
+      let long = length-map ds batchSlot in
       by-bool (leb r (length (slotsInOrder (treeIn t c))))
       (λ p. let one : suc (r - 1) ≡ r = omega arith in
-      rw p (nth-stands t ds (r - 1) s (omega (arith, leb-true r (length (map slotOf ds)) p, long))
+      rw p (nth-stands t ds (r - 1) s (omega (arith, leb-true r (length (map batchSlot ds)) p, long))
       ∙ ap (λ (m : ℕ). nth m (map entryOf ds)) one))
-      (λ p. let few = leb-false r (length (map slotOf ds)) p in
+      (λ p. let few = leb-false r (length (map batchSlot ds)) p in
       rw p (sym (nth-past r (map entryOf ds) (omega (arith, few, long, length-map ds entryOf)))))
 
   -- THE SLOT THAT RANK ANSWERS holds the ledger's record of that rank, and a refusal shows none

@@ -4,7 +4,7 @@ use native.Mathlib.Omega.{arith}
 use borrow.Fn.Kinds.{In}
 use borrow.Fn.PlainCycle.{Measures, is, falls, and}
 use Rattle.fork.proofs.Down.{Forked, in-reach, forked}
-use Rattle.rank.proofs.Seeking.{rank-leaf, seek-left, seek-here, seek-right}
+use Rattle.rank.proofs.Seeking.{rank-leaf, seek-left, seek-found, seek-right}
 use Rattle.rank.proofs.rank_at.Reads as at
 use Rattle.rank.proofs.rank_at.Kinds as at-kinds
 use Rattle.rank.proofs.+rank_at+rank_under.Lts-rank_at as at-lts
@@ -71,7 +71,7 @@ pub +rank-at+rank-under-spec : {M : Type 1} → statement M
     (λ c.
     let v = c .before .before in
     let start = v .before .before .before in
-    seek-here (start .pre .1 .2) (sides t (v .before)) (start .pre .1 .1) (v .rank-under .ensures) (c .if2 .taken))
+    seek-found (start .pre .1 .2) (sides t (v .before)) (start .pre .1 .1) (v .rank-under .ensures) (c .if2 .taken))
     -- sub-rank-under
     (λ c. omega (arith, c .before .if1 .left))
     -- rank-under-requires-2

@@ -4,7 +4,7 @@ use mathlib.Core.Path.{_≡_, _∙_}
 use native.Mathlib.Omega.{arith}
 use Rattle.scope.specs.Numbers.{mostSlots}
 use Rattle.scope.specs.Sums.{rankOf}
-use Rattle.fork.proofs.Down.{rooted, said}
+use Rattle.fork.proofs.Down.{root-hangs, said}
 use Rattle.rank.proofs.Seeking.{rank-over, some-root}
 use borrow.Author.Needs.{needs}
 use Rattle.rank.proofs.rank_in.Statement.{statement}
@@ -16,14 +16,14 @@ returns c = rank-over (c .before .before .before .pre .1) (c .before .records .e
 add-wanted : tie.Need-add-wanted
 add-wanted c =
     let v = c .before in
-    let h = rooted (v .before .before .before .pre .1) (c .root .ensures) (v .before .records .ensures) in
+    let h = root-hangs (v .before .before .before .pre .1) (c .root .ensures) (v .before .records .ensures) in
     omega (arith, v .if1 .left, h .most)
 
 rank-at-requires : tie.Need-rank-at-requires
 rank-at-requires c κs =
     let v = c .before in
     let start = v .before .before .before in
-    let h = rooted (start .pre .1) (c .root .ensures) (v .before .records .ensures) in
+    let h = root-hangs (start .pre .1) (c .root .ensures) (v .before .records .ensures) in
     let some = some-root (start .pre .1) (v .before .records .ensures) (c .root .ensures)
     (omega (arith, start .pre .0, v .if1 .left)) in
     (some, omega (arith, start .pre .0), h)

@@ -1,6 +1,6 @@
 -- `sound::visit` meets its contract. Assumes nothing.
 use borrow.Author.Needs.{needs}
-use Rattle.sound.proofs.Steps.{twice, misplaced, entered}
+use Rattle.sound.proofs.Steps.{twice, misplaced, slot-entered}
 use Rattle.sound.proofs.visit.Statement.{statement}
 use Rattle.sound.proofs.visit.Tie as tie
 
@@ -10,7 +10,7 @@ returns c = twice (c .before .marked .ensures) (c .if1 .taken)
 returns-2 : tie.Need-returns-2
 returns-2 c =
     let d = c .before .before .before .before .before in
-    entered (d .before .before .before .before .marked .ensures) (d .before .before .slot-at .ensures)
+    slot-entered (d .before .before .before .before .marked .ensures) (d .before .before .slot-at .ensures)
     (d .before .in-place .ensures) (d .before .before .before .if1 .left) (d .if2 .taken)
     (c .before .before .before .mark .ensures) (c .before .before .wide .ensures) (c .before .wide2 .ensures)
     (c .long .ensures)

@@ -3,7 +3,7 @@ use Prim.Native.Nat.{_-_}
 use mathlib.Core.Path.{_≡_}
 use native.Mathlib.Omega.{arith}
 use lib.ListN.{length}
-use Rattle.stand_shift.proofs.Filling.{FillGoing, setting-out, one-more, moved}
+use Rattle.stand_shift.proofs.Filling.{FillGoing, setting-out, one-filled, moved}
 use Rattle.stand_shift.proofs.fill.Statement.{statement}
 use Rattle.stand_shift.proofs.fill.Tie as tie
 
@@ -58,7 +58,7 @@ loop-again c =
     let e = c .before .before .before .before .before .before .before .before .line-end .ensures in
     let h = c .before .before .before .before .before .before .before .before .before .before .loop-test .taken in
     let g = c .before .before .before .before .before .before .before .before .before .before .before .loop .inv in
-    (one-more (g .0) h e (x .ensures .0) (x .ensures .1) (omega arith) (omega arith), omega arith, omega arith)
+    (one-filled (g .0) h e (x .ensures .0) (x .ensures .1) (omega arith) (omega arith), omega arith, omega arith)
 
 same-length-3 : tie.Need-same-length-3 Inv-loop μ-loop
 same-length-3 c = omega arith

@@ -9,7 +9,7 @@ returns : tie.Need-returns
 unfolding listed
 returns c =
     let b = c .before .before .before .before .before .before in
-    both-put (rw (b .before .answer .ensures) at (b .put-answer .ensures)) (c .before .before .put-records .ensures)
+    both-put (rw (b .before .list-answer .ensures) at (b .put-answer .ensures)) (c .before .before .put-lines .ensures)
 
 pub put-listed-spec : {M : Type 1} → statement M
 put-listed-spec =

@@ -47,9 +47,9 @@ module _ {t : List ℕ} {c : ℕ} (wh : Whole t c) (l : Link) (i : LinkIn c l) (
       let p = way-to wh l i h in
       (p .tree, rw (p .ends) at (hangs-along (p .way) rootLink (wh .sound .tree) (p .tree) (hangs-root wh) (p .there)))
 
-  pub two : 1 ≤ y → Two x y (l .holder)
+  pub two-apart : 1 ≤ y → Two x y (l .holder)
   unfolding Spells
-  two j =
+  two-apart j =
       by-side s (λ S. Hangs t c l S → Two x y (l .holder)) (some-tree .0)
       (λ k. absurd (omega (arith, k .spells)))
       (λ dv v near far. by-side s (λ N. Hangs t c l (mk s dv v N far) → Two x y (l .holder)) near
@@ -61,9 +61,9 @@ module _ {t : List ℕ} {c : ℕ} (wh : Whole t c) (l : Link) (i : LinkIn c l) (
       }))
       (some-tree .1)
 
-  pub three : 1 ≤ y → 1 ≤ z → Three x y z (l .holder)
+  pub three-apart : 1 ≤ y → 1 ≤ z → Three x y z (l .holder)
   unfolding Spells
-  three j o =
+  three-apart j o =
       by-side s (λ S. Hangs t c l S → Three x y z (l .holder)) (some-tree .0)
       (λ k. absurd (omega (arith, k .spells)))
       (λ dv v near far. by-side s (λ N. Hangs t c l (mk s dv v N far) → Three x y z (l .holder)) near

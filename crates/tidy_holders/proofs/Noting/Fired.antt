@@ -31,7 +31,7 @@ use Rattle.scope.specs.Rules.{action}
 use Rattle.tidy_holders.proofs.Noting.Acts.{AreSlots, action-edits}
 use Rattle.tidy_holders.proofs.Noting.Swaps.{afterMoves, told}
 use Rattle.tidy_holders.proofs.Noting.Places.{heldPart, heldBy, notePart, noteBy}
-use Rattle.tidy_holders.proofs.Noting.Turned.{by-moves, v-most, turned-holds, twice-holds}
+use Rattle.tidy_holders.proofs.Noting.Turned.{by-moves, v-within, turned-holds, twice-holds}
 
 module _ {t : List ℕ} {c : ℕ} (wh : Whole t c) (l : Link) (i : LinkIn c l) {h : List ℕ} (o : AllNoted t c h) where
   abbrev at : Rule → Nodes
@@ -42,7 +42,7 @@ module _ {t : List ℕ} {c : ℕ} (wh : Whole t c) (l : Link) (i : LinkIn c l) {
   unfolding heldBy heldPart noteBy notePart afterMoves told
   edited-holds Propagate s j =
       by-moves (wh .sized) o (propagated s (at (ruleOn Propagate s))) []
-      ((j .v, v-most wh l i s (j .v) (j .u)), tt) (tt, tt) tt (λ q n. tt) (λ q. refl) (λ k. refl)
+      ((j .v, v-within wh l i s (j .v) (j .u)), tt) (tt, tt) tt (λ q n. tt) (λ q. refl) (λ k. refl)
   edited-holds Lean s j = turned-holds wh l i s (j .v) (j .u) o (at (ruleOn Lean s) .w) (at (ruleOn Lean s) .sw)
   edited-holds Even s j = turned-holds wh l i s (j .v) (j .u) o (at (ruleOn Even s) .w) (at (ruleOn Even s) .sw)
   edited-holds Double s j = twice-holds wh l i s (j .v) (j .u) o (j .w)

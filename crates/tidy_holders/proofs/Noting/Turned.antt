@@ -22,7 +22,7 @@ use Rattle.tidy_holders.proofs.Noting.Links.{side-most, code-in, son-in
 use Rattle.tidy_holders.proofs.Noting.Swaps.{Move, takes, NotAt, NotFrom, Once, afterMoves, told, told-after}
 use Rattle.tidy_holders.proofs.Noting.Places.{AllProper, heldPart, heldBy, held-edits}
 use Rattle.tidy_holders.proofs.Noting.Places.{notePart, noteBy, EachNoted, note-edits}
-use Rattle.tidy_holders.proofs.Noting.Apart.{Two, Three, two, three}
+use Rattle.tidy_holders.proofs.Noting.Apart.{Two, Three, two-apart, three-apart}
 
 -- edits that come to such moves
 pub by-moves : {t : List ℕ} {c : ℕ} {h : List ℕ} → Sized t c → AllNoted t c h → (es : List Edit) (ms : List Move)
@@ -77,11 +77,11 @@ module _ {t : List ℕ} {c : ℕ} (wh : Whole t c) (l : Link) (i : LinkIn c l) (
   most q j = small (held-most wh q j)
 
   module _ (vi : 1 ≤ v) (ui : 1 ≤ u) where
-    pub v-most : v ≤ c
-    v-most = rw (← held-link t l) (held-most wh g (code-in l i))
+    pub v-within : v ≤ c
+    v-within = rw (← held-link t l) (held-most wh g (code-in l i))
 
     b-in : CodeIn c b
-    b-in = son-in v s vi v-most
+    b-in = son-in v s vi v-within
 
     u-most : u ≤ c
     u-most = rw (← held-son t v s vi) (held-most wh b b-in)
@@ -90,16 +90,16 @@ module _ {t : List ℕ} {c : ℕ} (wh : Whole t c) (l : Link) (i : LinkIn c l) (
     a-in = son-in u (other s) ui u-most
 
     at-v : (1 ≤ v) × (v ≤ c)
-    at-v = (vi, v-most)
+    at-v = (vi, v-within)
 
     at-u : (1 ≤ u) × (u ≤ c)
     at-u = (ui, u-most)
 
     apart : Two v u (l .holder)
-    apart = two wh l i vi s ui
+    apart = two-apart wh l i vi s ui
 
     in-v : LinkIn c (linkFor v s)
-    in-v = record { most = v-most; root = λ e. absurd (omega arith) }
+    in-v = record { most = v-within; root = λ e. absurd (omega arith) }
 
     in-u : LinkIn c (linkFor u (other s))
     in-u = record { most = u-most; root = λ e. absurd (omega arith) }
@@ -124,7 +124,7 @@ module _ {t : List ℕ} {c : ℕ} (wh : Whole t c) (l : Link) (i : LinkIn c l) (
       turned-holds w sw =
           by-moves (wh .sized) o (rotated s (pairAt w sw)) (takes b a ∷ takes a g ∷ takes g b ∷ [])
           (i, (in-u, (in-v, (at-v, (at-u, tt)))))
-          (small u-most, (small v-most, (rw (← held-son t u (other s) ui) (most a a-in), (tt, (tt, tt)))))
+          (small u-most, (small v-within, (rw (← held-son t u (other s) ui) (most a a-in), (tt, (tt, tt)))))
           (a-in, ((λ e. g-a (sym e)), (a-b, tt)), (code-in l i, (g-b, tt), (b-in, tt, tt)))
           (λ q n. (n .1 .0, (n .1 .1 .0, (n .0, tt))))
           (λ q. rw (held-son t u (other s) ui, held-link t l, held-son t v s vi) refl)
@@ -155,7 +155,7 @@ module _ {t : List ℕ} {c : ℕ} (wh : Whole t c) (l : Link) (i : LinkIn c l) (
         w-in side = son-in m side wi w-most
 
         apart-w : Three v u m (l .holder)
-        apart-w = three wh l i vi s ui wi
+        apart-w = three-apart wh l i vi s ui wi
 
         -- w's links are none of the others
         w-g : (side : Side) → linkNumber (linkFor m side) ≡ g → ⊥
@@ -188,7 +188,7 @@ module _ {t : List ℕ} {c : ℕ} (wh : Whole t c) (l : Link) (i : LinkIn c l) (
         at-w = (wi, w-most)
 
         noted-all : EachNoted (rotatedTwice s (pairAt m (slotAt t m)))
-        noted-all = (small w-most, (small u-most, (small v-most, (low s, (low (other s), (tt, (tt, (tt, (tt, tt)))))))))
+        noted-all = (small w-most, (small u-most, (small v-within, (low s, (low (other s), (tt, (tt, (tt, (tt, tt)))))))))
 
         proper : AllProper c (rotatedTwice s (pairAt m (slotAt t m)))
         proper = (i, (in-w s, (in-w (other s), (in-u, (in-v, (at-u, (at-v, (at-w, (at-w, tt)))))))))

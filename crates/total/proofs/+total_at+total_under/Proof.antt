@@ -5,7 +5,7 @@ use borrow.Author.Needs.{needs}
 use borrow.Fn.Kinds.{In}
 use borrow.Fn.PlainCycle.{Measures, is, falls, and}
 use Rattle.fork.proofs.Down.{Forked, in-reach, forked}
-use Rattle.total.proofs.Walks.{nothing-added, left-room, right-room, total-here}
+use Rattle.total.proofs.Walks.{nothing-added, adding-left, adding-right, total-here}
 use Rattle.total.proofs.total_at.Reads as at
 use Rattle.total.proofs.total_at.Kinds as at-kinds
 use Rattle.total.proofs.+total_at+total_under.Lts-total_at as at-lts
@@ -70,19 +70,19 @@ pub +total-at+total-under-spec : {M : Type 1} → statement M
     -- add-total-under
     (λ c.
     let v = c .before .before in
-    omega (arith, left-room (v .before .before .pre .1 .1) (sides t v) _ (c .counted .ensures) .room))
+    omega (arith, adding-left (v .before .before .pre .1 .1) (sides t v) _ (c .counted .ensures) .room))
     -- total-under-requires
     (λ c κs.
     let v = c .before .before in
     let d = sides t v in
     let start = v .before .before in
-    (omega (arith, start .pre .0, d .some), left-room (start .pre .1 .1) d _ (c .counted .ensures)))
+    (omega (arith, start .pre .0, d .some), adding-left (start .pre .1 .1) d _ (c .counted .ensures)))
     -- total-under-requires-2
     (λ c κs.
     let v = c .before .before .before in
     let d = sides t v in
     let start = v .before .before in
-    let room = right-room (start .pre .1 .1) d _ (c .before .counted .ensures) (c .total-under .ensures) in
+    let room = adding-right (start .pre .1 .1) d _ (c .before .counted .ensures) (c .total-under .ensures) in
     (omega (arith, start .pre .0, d .some), room))
     -- returns
     (λ c.

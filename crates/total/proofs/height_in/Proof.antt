@@ -1,7 +1,7 @@
 -- `total::height_in` meets its contract. Assumes nothing.
 use native.Mathlib.Omega.{arith}
 use Rattle.scope.specs.Tree.{trueHeight}
-use Rattle.fork.proofs.Down.{rooted, said, says-leaf}
+use Rattle.fork.proofs.Down.{root-hangs, said, says-leaf}
 use borrow.Author.Needs.{needs}
 use Rattle.total.proofs.height_in.Statement.{statement}
 use Rattle.total.proofs.height_in.Tie as tie
@@ -9,7 +9,7 @@ use Rattle.total.proofs.height_in.Tie as tie
 height-at-requires : tie.Need-height-at-requires
 height-at-requires c κs =
     let start = c .before .before .before .before in
-    (omega (arith, c .if1 .left), rooted (start .pre) (c .before .root .ensures) (c .before .before .records .ensures))
+    (omega (arith, c .if1 .left), root-hangs (start .pre) (c .before .root .ensures) (c .before .before .records .ensures))
 
 returns : tie.Need-returns
 unfolding trueHeight

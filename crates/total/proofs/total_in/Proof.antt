@@ -2,7 +2,7 @@
 use native.Mathlib.Omega.{arith}
 use Rattle.scope.specs.Sums.{totalOf}
 use Rattle.total.specs.Adding.{totalOn}
-use Rattle.fork.proofs.Down.{rooted, said, says-leaf}
+use Rattle.fork.proofs.Down.{root-hangs, said, says-leaf}
 use borrow.Author.Needs.{needs}
 use Rattle.total.proofs.total_in.Statement.{statement}
 use Rattle.total.proofs.total_in.Tie as tie
@@ -11,7 +11,7 @@ total-at-requires : tie.Need-total-at-requires
 total-at-requires c κs =
     let start = c .before .before .before .before in
     let at = c .before .root .ensures in
-    let h = rooted (start .pre) at (c .before .before .records .ensures) in
+    let h = root-hangs (start .pre) at (c .before .before .records .ensures) in
     (omega (arith, c .if1 .left), record { hangs = h; room = omega (arith, h .few, h .most) })
 
 returns : tie.Need-returns

@@ -12,7 +12,7 @@ use Rattle.scope.specs.declared.side.Side.{Side}
 use Rattle.scope.specs.declared.rule.Kind.{Kind}
 use Rattle.scope.specs.declared.rule.Kind.the-variants.{Propagate, Lean, Even, Double}
 use Rattle.scope.specs.declared.rule.Rule.{Rule}
-use Rattle.tree.specs.Rewrite.{mk, rotated, Test, rewriteAt}
+use Rattle.tree.specs.Rewrite.{mk, rotatedTree, Test, rewriteAt}
 use Rattle.tree.specs.Step.{Step, propagates, leans, evens, doubles}
 use Rattle.tree.specs.Shape.{Each}
 use Rattle.tree.proofs.Firing.Steps.{anywhere}
@@ -27,7 +27,7 @@ module _ (test : Test) (Q : ℕ → Tree → Type 0)
 
   turns : (s : Side) (dv du : Batch) (v u : Pair) (m n c : Tree)
       → Q (localh (turnedV v u)) (mk s dv (turnedV v u) n c)
-      → Each P (mk s dv v (mk s du u m n) c) → Each P (rotated s dv du v u m n c)
+      → Each P (mk s dv v (mk s du u m n) c) → Each P (rotatedTree s dv du v u m n c)
   turns s dv du v u m n c q h =
       let x = each-in s _ _ _ _ P h in
       let y = each-in s _ _ _ _ P (x .inNear) in

@@ -14,7 +14,7 @@ use Rattle.scope.specs.declared.side.Side.the-variants.{Left, Right}
 use Rattle.scope.specs.declared.rule.Rule.{Rule}
 use Rattle.tree.specs.Rewrite.{mk, overNear, Test, rewriteTop, rewriteAt}
 use Rattle.tree.specs.Place.{subtree, plug}
-use Rattle.tree.proofs.Firing.Steps.{no-tree, on-top, top-is, steps, along, inside}
+use Rattle.tree.proofs.Firing.Steps.{no-tree, on-top, top-is, steps, along, from-near}
 use Rattle.tree.proofs.Firing.Sides.{times-mk}
 
 -- the son's place is the node's, one step further
@@ -67,7 +67,7 @@ module _ (test : Test) (r : Rule) where
       (λ d x near far q.
       let h = fires-there way near S S′ q f in (
         mk s d x (h .0) far,
-        inside test way r s d x near (h .0) far (h .1),
+        from-near test way r s d x near (h .0) far (h .1),
         plug-mk s d x near far way S′ ∙ simp (h .2),
       ))
 

@@ -105,8 +105,8 @@ module _ (test : Test) where
       along r (λ w. R) (top (r .side) (r .kind)) (λ w. inside) way
 
   -- a rewriting of the near son is one of the node
-  pub inside : (way : List Side) (r : Rule) (s : Side) (d : Batch) (x : Pair) (near near′ far : Tree)
+  pub from-near : (way : List Side) (r : Rule) (s : Side) (d : Batch) (x : Pair) (near near′ far : Tree)
       → rewriteAt test way r near ≡ some near′
       → rewriteAt test (s ∷ way) r (mk s d x near far) ≡ some (mk s d x near′ far)
   unfolding rewriteAt
-  inside way r s d x near near′ far e = simp (top-is, e)
+  from-near way r s d x near near′ far e = simp (top-is, e)

@@ -24,7 +24,7 @@ use Rattle.tree.specs.Step.{Step, propagates, leans, evens, doubles}
 use Rattle.tree.specs.Shape.{Beside, Relaxed, Level, Balanced, Quiet}
 use Rattle.tree.proofs.Firing.Guards.{propagate-says, lean-says, even-says, double-says}
 use Rattle.tree.proofs.Firing.Guards.{propagate-holds, lean-holds, even-holds, double-holds}
-use Rattle.tree.proofs.Firing.Steps.{by-side, no-tree, none-there, steps, along, anywhere, inside}
+use Rattle.tree.proofs.Firing.Steps.{by-side, no-tree, none-there, steps, along, anywhere, from-near}
 use Rattle.tree.proofs.Firing.Sides.{top-mk, each-in}
 
 -- in a balanced tree the local height is the true one
@@ -126,7 +126,7 @@ module _ (limit : ℕ) where
       → Or (Balanced near) limit near → Or (Level (x .near) (x .far) near × Balanced near) limit (mk s d x near far)
   half s d x near far b l (held i) = both (λ q i. (q, i)) (side s d x near far b i l) (held i)
   half s d x near far b l (due way r N e) =
-      due (s ∷ way) r (mk s d x N far) (inside (within limit) way r s d x near N far e)
+      due (s ∷ way) r (mk s d x N far) (from-near (within limit) way r s d x near N far e)
 
   -- from the leaves up: a tree is balanced, or somewhere a firing is due
   settle : (T : Tree) → Relaxed T → trueHeight T ≤ limit → Or (Balanced T) limit T
@@ -149,7 +149,7 @@ pub accepted-fires : (limit : ℕ) (way : List Side) (r : Rule) (T T′ : Tree) 
 accepted-fires limit way r =
     along (within limit) r (λ way T T′. fireAt way r T ≡ some T′)
     (λ T T′ x. unfold rewriteAt in steps guard r T T′ (loosened limit (r .side) (r .kind) T T′ x))
-    (λ way s d x near near′ far e. inside guard way r s d x near near′ far e)
+    (λ way s d x near near′ far e. from-near guard way r s d x near near′ far e)
     way
 
 -- A QUIET TREE IS BALANCED, and its registers are the true heights

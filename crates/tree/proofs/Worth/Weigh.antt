@@ -11,7 +11,7 @@ use Rattle.scope.specs.declared.side.Side.the-variants.{Left, Right}
 use Rattle.scope.specs.declared.rule.Kind.the-variants.{Propagate, Lean, Double}
 use Rattle.tree.specs.Weight.{Scale, weigh, Fair}
 use Rattle.tree.specs.Measure.{balance, taken, brought}
-use Rattle.tree.specs.Rewrite.{mk, propagated, rotated, doubled}
+use Rattle.tree.specs.Rewrite.{mk, propagatedTree, rotatedTree, doubled}
 use Rattle.tree.proofs.Firing.Sides.{size-mk}
 
 module _ (S : Scale) (fair : Fair S) where
@@ -33,7 +33,7 @@ module _ (S : Scale) (fair : Fair S) where
     before = weigh S (mk s dv v (mk s du u m n) c) o above
 
     -- v's near register now says u's local height
-    pub propagated-weigh : weigh S (propagated s dv du v u m n c) o above
+    pub propagated-weigh : weigh S (propagatedTree s dv du v u m n c) o above
         + taken o above (size c) v u u Propagate S
         ≡ before + brought o above (size c) v u u Propagate S
     propagated-weigh =
@@ -42,7 +42,7 @@ module _ (S : Scale) (fair : Fair S) where
 
     -- u over v, where u was reliable
     pub rotated-weigh : v .near ≡ localh u
-        → weigh S (rotated s dv du v u m n c) o above
+        → weigh S (rotatedTree s dv du v u m n c) o above
         + taken o above (size c) v u u Lean S
         ≡ before + brought o above (size c) v u u Lean S
     rotated-weigh e =

@@ -4,7 +4,7 @@ use Prim.Native.Nat.{_-_}
 use native.Mathlib.Omega.{arith}
 use borrow.Author.Needs.{needs}
 use Rattle.spelling.proofs.Laws.{in-table}
-use Rattle.walk.proofs.Visits.{Heading, begins, ends-empty, ends-spent, ends-here, ends-unfit, one-more, passes}
+use Rattle.walk.proofs.Visits.{Heading, begins, ends-empty, ends-spent, ends-here, ends-unfit, one-more, passes-on}
 use Rattle.walk.proofs.search.Statement.{statement}
 use Rattle.walk.proofs.search.Tie as tie
 
@@ -47,7 +47,7 @@ loop-again : tie.Need-loop-again Inv-loop μ-loop
 loop-again c =
     let w = c .before .before .before .before in
     let b = w .before .before .before in
-    passes (b .before .before .loop .inv) (b .before .if1 .left) (b .if2 .left)
+    passes-on (b .before .before .loop .inv) (b .before .if1 .left) (b .if2 .left)
     (w .before .before .slot-at .ensures) (w .before .way .ensures) (w .son .ensures)
     (c .before .before .before .fit .ensures) (c .before .before .if3 .left) (c .if4 .left)
 

@@ -1,7 +1,7 @@
 -- `worth::worth_in` meets its contract. Assumes nothing.
 use mathlib.Core.Path.{refl}
 use native.Mathlib.Omega.{arith}
-use Rattle.fork.proofs.Down.{rooted, says-leaf}
+use Rattle.fork.proofs.Down.{root-hangs, says-leaf}
 use Rattle.worth.specs.Weight.{topOf}
 use Rattle.worth.proofs.Under.{weigh-leaf, worth-whole}
 use borrow.Author.Needs.{needs}
@@ -11,12 +11,12 @@ use Rattle.worth.proofs.worth_in.Tie as tie
 top-requires : tie.Need-top-requires
 top-requires c κs =
     let v = c .before .before in
-    (_, rooted (v .before .before .before .pre) (v .root .ensures) (v .before .records .ensures))
+    (_, root-hangs (v .before .before .before .pre) (v .root .ensures) (v .before .records .ensures))
 
 weigh-at-requires : tie.Need-weigh-at-requires
 weigh-at-requires c κs =
     let v = c .before .before .before in
-    let h = rooted (v .before .before .before .pre) (v .root .ensures) (v .before .records .ensures) in (
+    let h = root-hangs (v .before .before .before .pre) (v .root .ensures) (v .before .records .ensures) in (
       omega (arith, c .before .before .if1 .left),
       h,
       record {
