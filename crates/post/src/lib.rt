@@ -5,7 +5,6 @@ use scope::Link;
 use scope::Posting;
 use scope::Refusal;
 use scope::Slot;
-use scope::State;
 use scope::Walk;
 ghost use mathlib.Core.Path.{_≡_};
 ghost use Prim.Native.Nat.{_≤_};

@@ -1,16 +1,15 @@
 -- A rewriting keeps the records in order, hence slots and keys, and the zeros beside empty links. Assumes nothing.
 use Prim.Native.Nat.{ℕ, _+_}
 use mathlib.Core.Path.{_≡_, refl, sym, _∙_, ap}
-use mathlib.Core.Option.{Option, none, some}
+use mathlib.Core.Option.{some}
 use mathlib.Core.List.{List, [], _∷_, _++_}
 use native.Mathlib.Omega.{arith}
 use lib.ListN.{length, length-append}
 use Rattle.scope.specs.Tree.{Batch, Tree, leaf, node, size, inOrder, times, same}
-use Rattle.scope.specs.Rules.{guard}
 use Rattle.scope.specs.declared.side.Side.{Side}
 use Rattle.scope.specs.declared.rule.Kind.{Kind}
 use Rattle.scope.specs.declared.rule.Rule.{Rule}
-use Rattle.tree.specs.Rewrite.{Test, rewriteAt, Attempt, attempted, orSame, afterAttempts}
+use Rattle.tree.specs.Rewrite.{Test, rewriteAt}
 use Rattle.tree.specs.Step.{Step, propagates, leans, evens, doubles}
 use Rattle.tree.specs.Shape.{Beside, Relaxed}
 use Rattle.tree.proofs.Firing.Steps.{anywhere}
@@ -46,19 +45,6 @@ module _ (test : Test) where
             (λ s k T T′ x _ a _. step-beside s k T T′ x a) (λ s d x near near′ far a _. beside-mk s d x near′ far a)
             way r T T′ e .each;
       }
-
--- and over any list of attempts
-kept-keeps : (o : Option Tree) (T : Tree) → ((T′ : Tree) → o ≡ some T′ → Keeps T T′) → Keeps T (orSame o T)
-kept-keeps none T f = record { records = refl; relaxed = λ h. h }
-kept-keeps (some T′) T f = f T′ refl
-
-pub after-keeps : (xs : List Attempt) (T : Tree) → Keeps T (afterAttempts xs T)
-unfolding afterAttempts
-after-keeps [] T = record { records = refl; relaxed = λ h. h }
-after-keeps (x ∷ xs) T =
-    let first = kept-keeps (attempted x T) T (keeps guard (x .way) (x .rule) T) in
-    let rest = after-keeps xs (orSame (attempted x T) T) in
-    record { records = rest .records ∙ first .records; relaxed = λ h. rest .relaxed (first .relaxed h) }
 
 -- what the records in order decide: how often a slot stands in the tree, and how many nodes there are
 abbrev timesIn : ℕ → List Batch → ℕ

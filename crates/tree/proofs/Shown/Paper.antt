@@ -10,11 +10,10 @@ use Rattle.scope.specs.declared.side.Side.{Side}
 use Rattle.scope.specs.declared.rule.Rule.{Rule}
 use Rattle.scope.specs.Rules.{guard}
 use Rattle.tree.specs.Rewrite.{fireAt, Attempt, acceptedAttempts}
-use Rattle.tree.specs.Shape.{Relaxed, Covered, Balanced, Quiet}
+use Rattle.tree.specs.Shape.{Relaxed, Covered}
 use Rattle.tree.specs.Variant.{Less, variantOf}
 use Rattle.tree.proofs.Firing.Keeps.{keeps}
 use Rattle.tree.proofs.Firing.Order.{ordered-kept}
-use Rattle.tree.proofs.Rest.Quiet.{quiet-balanced}
 use Rattle.tree.proofs.Worth.Covered.{covered-kept}
 use Rattle.tree.proofs.Worth.Variant.{variant-falls}
 use Rattle.tree.proofs.Worth.Fall.{worth-falls, accepted-bound}
@@ -25,15 +24,12 @@ pub record HeightRelaxed (T : Tree) : Type 0 where
   pub ordered : Ordered T
   pub relaxed : Relaxed T
 
--- LEMMA 1: a firing keeps such a tree and its records; and where no rule applies, the tree is balanced
+-- LEMMA 1: a firing keeps such a tree and its records; that it is balanced where no rule applies is `quiet-balanced`
 pub safety : (way : List Side) (r : Rule) (T T′ : Tree) → fireAt way r T ≡ some T′ → HeightRelaxed T
     → HeightRelaxed T′ × (inOrder T′ ≡ inOrder T)
 safety way r T T′ e h =
     let k = keeps guard way r T T′ e in
     (record { ordered = ordered-kept T T′ (k .records) (h .ordered); relaxed = k .relaxed (h .relaxed) }, k .records)
-
-pub rest : (T : Tree) → HeightRelaxed T → Quiet T → Balanced T
-rest T h = quiet-balanced T (h .relaxed)
 
 -- LEMMA 2: no carry becomes negative where none is
 pub no-negative : (way : List Side) (r : Rule) (T T′ : Tree) → fireAt way r T ≡ some T′ → Covered T → Covered T′

@@ -1,12 +1,10 @@
 -- The paper's Lemma 2: where no carry is negative, no firing makes one negative. Assumes nothing.
-use Prim.Native.Nat.{ℕ, _*_, _-_, _≤_, _<_}
-use mathlib.Core.Path.{_≡_, refl}
+use Prim.Native.Nat.{_≤_}
+use mathlib.Core.Path.{_≡_}
 use mathlib.Core.Option.{some}
 use mathlib.Core.List.{List}
 use native.Mathlib.Omega.{arith}
-use native.Mathlib.Nat.{mul-le-mul-right}
-use Rattle.scope.specs.Tree.{Tree, leaf, node, size, over}
-use Rattle.scope.specs.Worth.{negOf, NEG}
+use Rattle.scope.specs.Tree.{Tree}
 use Rattle.scope.specs.Rules.{guard}
 use Rattle.scope.specs.declared.side.Side.{Side}
 use Rattle.scope.specs.declared.rule.Kind.{Kind}
@@ -35,42 +33,3 @@ covered-kept way r T T′ e =
     (λ s k T T′ x h a q. omega (arith, step-top s k T T′ x h))
     (λ s d x near near′ far a q. omega (arith, top-mk s d x near far, top-mk s d x near′ far))
     way r T T′ e .each
-
--- in document 01's sums: no carry is negative exactly if NEG is 0
-neg-none : (n a : ℕ) (T : Tree) → Covers a T → negOf n a T ≡ 0
-unfolding negOf topHeight
-neg-none n a leaf h = refl
-neg-none n a (node d x y l r) h =
-    let z : over x y - a ≡ 0 = omega arith in rw z (omega arith)
-
-pub covered-none : (n : ℕ) (T : Tree) → Covered T → NEG n T ≡ 0
-unfolding NEG
-covered-none n leaf h = refl
-covered-none n (node d a b l r) h =
-    omega (
-      arith,
-      neg-none n a l (h .near),
-      neg-none n b r (h .far),
-      covered-none n l (h .inNear),
-      covered-none n r (h .inFar),
-    )
-
-factor : (k x : ℕ) → 1 ≤ k → k * x ≡ 0 → x ≡ 0
-factor k x h e = omega (arith, mul-le-mul-right x h)
-
-none-neg : (n a : ℕ) (T : Tree) → size T < n → negOf n a T ≡ 0 → Covers a T
-unfolding negOf topHeight
-none-neg n a leaf h e = omega arith
-none-neg n a (node d x y l r) h e =
-    omega (arith, factor (n - size (node d x y l r)) (over x y - a) (omega arith) e)
-
-pub none-covered : (n : ℕ) (T : Tree) → size T ≤ n → NEG n T ≡ 0 → Covered T
-unfolding NEG size
-none-covered n leaf h e = tt
-none-covered n (node d a b l r) h e =
-    record {
-      near = none-neg n a l (omega arith) (omega arith);
-      far = none-neg n b r (omega arith) (omega arith);
-      inNear = none-covered n l (omega arith) (omega arith);
-      inFar = none-covered n r (omega arith) (omega arith);
-    }
