@@ -1,3 +1,3 @@
--- Laws that the functions of `removal` lean on.
+-- Laws that the functions of `drop` lean on.
 pub mod Relinking
 pub mod Written

@@ -1,4 +1,4 @@
--- Laws that the functions of `picking` lean on.
+-- Laws that the functions of `drop_plan` lean on.
 pub mod Hits
 pub mod Descending
 pub mod Plans

@@ -1,2 +1,2 @@
--- What the functions of `picking` ask and promise beside `scope`.
+-- What the functions of `drop_plan` ask and promise beside `scope`.
 pub mod Planned

@@ -1,4 +1,4 @@
--- Laws that the functions of `acts` lean on.
+-- Laws that the functions of `fire_act` lean on.
 pub mod Writes
 pub mod Actions
 pub mod Acting

@@ -1,2 +1,2 @@
--- What the functions of `acts` ask and promise beside `scope`.
+-- What the functions of `fire_act` ask and promise beside `scope`.
 pub mod Wrote

@@ -1,2 +1,2 @@
--- What the functions of `rules` cite beside `scope`.
+-- What the functions of `fire_aim` cite beside `scope`.
 pub mod Aimed

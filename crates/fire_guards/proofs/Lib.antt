@@ -1,3 +1,3 @@
--- Laws that the functions of `guards` lean on.
+-- Laws that the functions of `fire_guards` lean on.
 pub mod Turning
 pub mod Limit

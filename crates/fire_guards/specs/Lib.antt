@@ -1,2 +1,2 @@
--- What the functions of `guards` ask and promise beside `scope`.
+-- What the functions of `fire_guards` ask and promise beside `scope`.
 pub mod Leans

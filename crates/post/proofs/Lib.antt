@@ -1,3 +1,3 @@
--- Laws that the functions of `posting` lean on.
+-- Laws that the functions of `post` lean on.
 pub mod Hanging
 pub mod Written

@@ -1,4 +1,4 @@
--- The definitions that the contracts of `fields` cite.
+-- The definitions that the contracts of `text_fields` cite.
 pub mod Text
 pub mod Decimal
 pub mod Number

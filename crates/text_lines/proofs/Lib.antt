@@ -1,2 +1,2 @@
--- What is proved in `lines` beside its functions.
+-- What is proved in `text_lines` beside its functions.
 pub mod Trying

@@ -1,2 +1,2 @@
--- The definitions that the contracts of `lines` cite.
+-- The definitions that the contracts of `text_lines` cite.
 pub mod Form

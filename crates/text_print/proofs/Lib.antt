@@ -1,3 +1,3 @@
--- What is proved in `printing` beside its functions.
+-- What is proved in `text_print` beside its functions.
 pub mod Laid
 pub mod Kept

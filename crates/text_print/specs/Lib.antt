@@ -1,3 +1,3 @@
--- The definitions that the contracts of `printing` cite.
+-- The definitions that the contracts of `text_print` cite.
 pub mod Put
 pub mod Line
