@@ -4,7 +4,7 @@ use mathlib.Core.Path.{_≡_}
 use mathlib.Core.Bool.{cond}
 use mathlib.Core.List.{List}
 use lib.Dec.{eqb}
-use Rattle.scope.specs.Table.{word, rootWord, slotAt, linkAt}
+use Rattle.scope.specs.Table.{headWords, word, rootWord, slotAt, linkAt}
 use Rattle.scope.specs.Tree.{Tree, times}
 use Rattle.scope.specs.Sound.{Spells}
 use Rattle.scope.specs.declared.side.Link.{Link}
@@ -35,7 +35,7 @@ pub record ChangedBelow (t t′ : List ℕ) (c : ℕ) (l : Link) (S S′ : Tree)
   pub spells : Spells t′ c top S′
   pub slots : (k : ℕ) → 1 ≤ k → times k S ≡ 0 → slotAt t′ k ≡ slotRelinked l top k (slotAt t k)
   pub root : word t′ rootWord ≡ cond (eqb (l .holder) 0) top (word t rootWord)
-  pub head : (i : ℕ) → 1 ≤ i → i < 4 → word t′ i ≡ word t i
+  pub head : (i : ℕ) → 1 ≤ i → i < headWords → word t′ i ≡ word t i
 
 -- slot k with 0 in its link and in the register beside it, if it holds the link
 abbrev pub emptied : Link → ℕ → Slot → Slot
@@ -50,4 +50,4 @@ pub record Cut (t t′ : List ℕ) (c : ℕ) (l : Link) (S S′ : Tree) : Type 0
   pub slots : (k : ℕ) → 1 ≤ k → times k S ≡ 0
       → slotAt t′ k ≡ cond (eqb top 0) (emptied l k (slotAt t k)) (slotRelinked l top k (slotAt t k))
   pub root : word t′ rootWord ≡ cond (eqb (l .holder) 0) top (word t rootWord)
-  pub head : (i : ℕ) → 1 ≤ i → i < 4 → word t′ i ≡ word t i
+  pub head : (i : ℕ) → 1 ≤ i → i < headWords → word t′ i ≡ word t i

@@ -3,7 +3,7 @@ use Prim.Native.Nat.{ℕ, _≤_, _<_}
 use mathlib.Core.Path.{_≡_}
 use mathlib.Core.List.{List}
 use Rattle.scope.specs.Numbers.{rootLink}
-use Rattle.scope.specs.Table.{word, slotAt}
+use Rattle.scope.specs.Table.{headWords, word, slotAt}
 use Rattle.scope.specs.Tree.{Tree, times, inOrder}
 use Rattle.scope.specs.Sound.{treeIn}
 use Rattle.scope.specs.declared.rule.Rule.{Rule}
@@ -21,7 +21,7 @@ pub record Fired (t t′ : List ℕ) (c : ℕ) (T T′ : Tree) : Type 0 where
   pub whole : Whole t′ c
   pub tree : treeIn t′ c ≡ T′
   pub records : inOrder T′ ≡ inOrder T
-  pub head : (i : ℕ) → 1 ≤ i → i < 4 → word t′ i ≡ word t i
+  pub head : (i : ℕ) → 1 ≤ i → i < headWords → word t′ i ≡ word t i
   pub free : (k : ℕ) → 1 ≤ k → times k T ≡ 0 → slotAt t′ k ≡ slotAt t k
 
 -- how a rule at a link ends: by the way that leads there, or, where none does, with 8

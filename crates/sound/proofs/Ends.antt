@@ -9,7 +9,7 @@ use lib.Dec.{eqb}
 use borrow.Author.Tests.{eq-eqb, ne-eqb, eqb-false, not-true}
 use Rattle.scope.proofs.Bools.{and-l, and-r, by-bool, neither}
 use Rattle.scope.specs.Numbers.{mostSlots}
-use Rattle.scope.specs.Table.{word, rootWord, countWord, slotAt, base}
+use Rattle.scope.specs.Table.{word, rootWord, countWord, slotAt}
 use Rattle.scope.specs.Fit.{stateOk, fitSlot, headerOk, blankSlot}
 use Rattle.scope.specs.Tree.{Batch, Tree, leaf, node, size, times, Above, Below}
 use Rattle.scope.specs.Sound.{Spells, soundTable, Sound}
@@ -45,7 +45,7 @@ module _ (t : List ℕ) (c : ℕ) where
   module _ (small : (i : ℕ) → word t i < 4294967296) where
     key-small : (x : ℕ) → slotAt t x .key < 4294967296
     unfolding slotAt
-    key-small x = small (base x + 1)
+    key-small x = small _
 
     -- every key lies between the widest bounds
     bounds : (x : ℕ) (T : Tree) → Spells t c x T → Above 0 T × Below 4294967296 T

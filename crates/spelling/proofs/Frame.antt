@@ -15,9 +15,6 @@ use Rattle.spelling.proofs.Slots.{words-slot}
 pub same-self : (x : ℕ) → same x x ≡ 1
 same-self x = ap (λ (b : Bool). cond b 1 0) (eq-eqb x x refl)
 
-pub same-none : (j k : ℕ) → (j ≡ k → ⊥) → same j k ≡ 0
-same-none j k ne = simp (ne-eqb j k ne)
-
 -- a slot whose words are those of another table is the slot there
 pub slot-words : (t t' : List ℕ) (k : ℕ) → ((f : ℕ) → f < slotWords → word t' (base k + f) ≡ word t (base k + f))
     → slotAt t' k ≡ slotAt t k

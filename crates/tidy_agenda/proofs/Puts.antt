@@ -15,6 +15,14 @@ use Rattle.marks.proofs.Bits.{one-bit, set-same, set-other}
 use Rattle.tidy_agenda.specs.Agenda.{Agenda, BitPut, Listed, Struck}
 use Rattle.tidy_agenda.proofs.Flips.{without, without-same, without-other, without-none, with-some}
 
+-- the bits of the word above
+pub above-bit : (m : List ℕ) (i : ℕ) → i < 64 → bitAt m (4096 + i) ≡ getD m 64 0 / 2 ^ i % 2
+unfolding bitAt
+above-bit m i l =
+    let word : (4096 + i) / 64 ≡ 64 = omega arith in
+    let bit : (4096 + i) % 64 ≡ i = omega arith in
+    rw (word, bit) refl
+
 -- slot k's word becomes x, in which its bit is y and every other as it was
 module _ {m : List ℕ} (a : Agenda m) (k : ℕ) (h : k < 4096) (x y : ℕ) (same : x / 2 ^ (k % 64) % 2 ≡ y)
     (other : (i : ℕ) → (i ≡ k % 64 → ⊥) → x / 2 ^ i % 2 ≡ getD m (k / 64) 0 / 2 ^ i % 2) where
@@ -67,13 +75,6 @@ module _ {m : List ℕ} (a : Agenda m) (k : ℕ) (h : k < 4096) (x y : ℕ) (sam
         let bit : (4096 + i) % 64 ≡ i = omega arith in
         rw (word, bit) (ap (λ (w : ℕ). w / 2 ^ i % 2) (getD-set-same m₁ 64 z 0 (omega (arith, room₁))))
 
-    was : (i : ℕ) → i < 64 → bitAt m₁ (4096 + i) ≡ getD m₁ 64 0 / 2 ^ i % 2
-    unfolding bitAt
-    was i l =
-        let word : (4096 + i) / 64 ≡ 64 = omega arith in
-        let bit : (4096 + i) % 64 ≡ i = omega arith in
-        rw (word, bit) refl
-
     word₂ : (i : ℕ) → i < 64 → getD m₂ i 0 ≡ getD m₁ i 0
     word₂ i l = getD-set-other m₁ 64 i z 0 (λ e. omega arith)
 
@@ -83,7 +84,7 @@ module _ {m : List ℕ} (a : Agenda m) (k : ℕ) (h : k < 4096) (x y : ℕ) (sam
         room = simp length-set (a .room);
         top = λ i l. elim (ℕ-discrete i (k / 64)) [
           | yes e ↦ high₂ i l ∙ rw (word₂ i l, e, here₁) right
-          | no ne ↦ high₂ i l ∙ rest i ne ∙ sym (was i l) ∙ above₁ i ∙ a .top i l
+          | no ne ↦ high₂ i l ∙ rest i ne ∙ sym (above-bit m₁ i l) ∙ above₁ i ∙ a .top i l
               ∙ ap (λ (w : ℕ). cond (eqb w 0) 0 1) (sym (word₂ i l ∙ word₁ i ne))
         ];
       };

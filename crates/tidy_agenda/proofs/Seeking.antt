@@ -1,6 +1,6 @@
 -- The lowest slot that is listed, by the word above and its own word. Assumes nothing.
 use Prim.Native.Nat.{ℕ, _+_, _*_, _/_, _%_, _^_, _<_}
-use mathlib.Core.Path.{_≡_, refl, ap, _∙_}
+use mathlib.Core.Path.{_≡_, ap, _∙_}
 use mathlib.Core.List.{List}
 use native.Mathlib.Decide.{decLt}
 use native.Mathlib.Omega.{arith}
@@ -12,6 +12,7 @@ use Rattle.scope.proofs.Bools.{by-bool}
 use Rattle.marks.specs.Marks.{bitAt}
 use Rattle.marks.proofs.Passing.{none-on}
 use Rattle.tidy_agenda.specs.Agenda.{Agenda, LowestBit, Lowest}
+use Rattle.tidy_agenda.proofs.Puts.{above-bit}
 use Rattle.tidy_agenda.proofs.Zeros.{first-on}
 
 -- the zeros of a word that is not 0
@@ -19,23 +20,15 @@ pub lowest-bit : (w : ℕ) → w < 2 ^ 64 → (w ≡ 0 → ⊥) → LowestBit w 
 lowest-bit w l ne = first-on 64 64 w (omega arith) l (omega arith)
 
 module _ {m : List ℕ} (a : Agenda m) where
-  -- the bits of the word above
-  above-bit : (i : ℕ) → i < 64 → bitAt m (4096 + i) ≡ getD m 64 0 / 2 ^ i % 2
-  unfolding bitAt
-  above-bit i l =
-      let word : (4096 + i) / 64 ≡ 64 = omega arith in
-      let bit : (4096 + i) % 64 ≡ i = omega arith in
-      rw (word, bit) refl
-
   -- a word that it leaves out lists nothing
   word-none : (i : ℕ) → i < 64 → getD m 64 0 / 2 ^ i % 2 ≡ 0 → getD m i 0 ≡ 0
   word-none i l e =
       by-bool (eqb (getD m i 0) 0)
       (λ p. eqb-true _ 0 p)
-      (λ p. let q = rw p at (a .top i l) in absurd (omega (arith, above-bit i l)))
+      (λ p. let q = rw p at (a .top i l) in absurd (omega (arith, above-bit m i l)))
 
   pub word-some : (i : ℕ) → i < 64 → getD m 64 0 / 2 ^ i % 2 ≡ 1 → getD m i 0 ≡ 0 → ⊥
-  word-some i l e z = let q = rw z at (a .top i l) in omega (arith, above-bit i l)
+  word-some i l e z = let q = rw z at (a .top i l) in omega (arith, above-bit m i l)
 
   unlisted : (j : ℕ) → j < 4096 → getD m 64 0 / 2 ^ (j / 64) % 2 ≡ 0 → bitAt m j ≡ 0
   unfolding bitAt

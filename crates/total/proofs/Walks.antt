@@ -14,15 +14,11 @@ use Rattle.scope.specs.Tree.{Tree, leaf, node, size, trueHeight, over}
 use Rattle.scope.specs.Sound.{Spells}
 use Rattle.scope.specs.Sums.{totalOf}
 use Rattle.scope.specs.declared.slot.Slot.{Slot}
+use Rattle.tree.proofs.Rest.Height.{height-size}
 use Rattle.fork.specs.declared.Fork.{Fork}
 use Rattle.fork.specs.Hangs.{Says}
 use Rattle.total.specs.Adding.{Adding, countedOf, totalOn}
 use Rattle.fork.proofs.Down.{Forked, sizes, said-at, says-leaf, says-fork}
-
-height-most : (T : Tree) → trueHeight T ≤ size T
-unfolding trueHeight size
-height-most leaf = omega arith
-height-most (node d a b l r) = omega (arith, height-most l, height-most r)
 
 -- a fit slot's pieces
 pieces-most : (c : ℕ) (s : Slot) → fitSlot c s ≡ true → s .pieces ≤ 1000000
@@ -55,8 +51,8 @@ module _ {t : List ℕ} {more x : ℕ} {f : Fork} (d : Forked t more x f) where
     heights-few =
         omega (
           arith,
-          height-most (d .on-left .tree),
-          height-most (d .on-right .tree),
+          height-size (d .on-left .tree),
+          height-size (d .on-right .tree),
           d .few,
           d .most,
           said-at (d .on-left) trueHeight sa,

@@ -5,7 +5,7 @@ use mathlib.Core.List.{List}
 use native.Mathlib.Omega.{arith}
 use borrow.Author.Tests.{eq-eqb, ne-eqb}
 use lib.ListN.{length}
-use Rattle.scope.specs.Table.{slotWords, word, slotAt}
+use Rattle.scope.specs.Table.{headWords, slotWords, word, slotAt}
 use Rattle.scope.specs.Post.{freeFrom, freeSlot}
 use Rattle.spelling.specs.Ready.{Sized, Free}
 
@@ -52,9 +52,9 @@ module _ {t : List ℕ} {c k : ℕ} (so-far : FreeSeeking t c k) where
 -- the search at place b, which is the first word of a slot
 pub record AtPlace (t : List ℕ) (c b : ℕ) : Type 0 where
   pub seeking : FreeSeeking t c (b / slotWords + 1)
-  pub place : b % slotWords ≡ 4
+  pub place : b % slotWords ≡ headWords
 
-pub place-start : (t : List ℕ) (c : ℕ) → AtPlace t c 4
+pub place-start : (t : List ℕ) (c : ℕ) → AtPlace t c headWords
 place-start t c = record { seeking = seek-start t c; place = refl }
 
 module _ {t : List ℕ} {c b : ℕ} (z : Sized t c) (a : AtPlace t c b) where

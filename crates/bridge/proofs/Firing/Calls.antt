@@ -10,7 +10,7 @@ use lib.Dec.{ltb, eqb}
 use borrow.Author.Tests.{eq-eqb, ne-eqb, le-leb, eqb-true, ltb-false}
 use Rattle.scope.proofs.Bools.{by-bool, never}
 use Rattle.scope.specs.Numbers.{rootLink, slotsOf, sideOf, linkOf, knownLink, ruleOf}
-use Rattle.scope.specs.Table.{slotWords, slotsIn}
+use Rattle.scope.specs.Table.{headWords, slotWords, slotsIn}
 use Rattle.scope.specs.Tree.{Tree, times}
 use Rattle.scope.specs.Fire.{aimed, firePlan}
 use Rattle.scope.specs.declared.rule.Rule.{Rule}
@@ -28,14 +28,14 @@ use Rattle.tree.specs.Place.{subtree}
 use Rattle.bridge.specs.Leads.{linkAlong, Leads}
 use Rattle.bridge.specs.Fired.{FireEnds, at-way, no-way}
 use Rattle.bridge.proofs.Links.Ways.{leads, leads-holder}
-use Rattle.spelling.proofs.Frame.{same-none}
+use Rattle.tree.proofs.Firing.Place.{same-none}
 use Rattle.bridge.proofs.Firing.Fires.{hangs-root, same-way, free-holder}
 
 -- a table of c slots is taken for one
 pub sized-slots : {t : List ℕ} {c : ℕ} → Sized t c → slotsIn (length t) ≡ Within (record { count = c })
 unfolding slotsIn slotsOf
 sized-slots {t} {c} z =
-    let a : length t % slotWords ≡ 4 = omega arith in
+    let a : length t % slotWords ≡ headWords = omega arith in
     let b : length t / slotWords ≡ c = omega arith in
     rw (a, b, ne-eqb c 0 (λ q. omega arith), le-leb c 4095 (z .most)) refl
 

@@ -8,7 +8,7 @@ use lib.Dec.{eqb, leb}
 use borrow.Author.Tests.{eq-eqb, ne-eqb, leb-true, le-leb}
 use Rattle.scope.proofs.Bools.{and-l, and-r}
 use Rattle.scope.specs.Numbers.{other, mostHeight}
-use Rattle.scope.specs.Table.{word, rootWord, slotAt, son, linkAt}
+use Rattle.scope.specs.Table.{headWords, word, rootWord, slotAt, son, linkAt}
 use Rattle.scope.specs.Fit.{linkOk, fitSlot}
 use Rattle.scope.specs.Tree.{Batch, Tree, leaf, node, times, same}
 use Rattle.scope.specs.Sound.{Spells}
@@ -87,7 +87,7 @@ module _ {t : List ℕ} {c : ℕ} (l : Link) (s : Side) (d : Batch) (p : Pair) (
       (good : linkOk c y g ≡ true)
       (slot-x : slotAt t′ x ≡ shape s (slotAt t x) y (son (slotAt t x) (other s)) (pair g (seen s (slotAt t x) .far)))
       (stay : (k : ℕ) → 1 ≤ k → times k near ≡ 0 → (k ≡ x → ⊥) → slotAt t′ k ≡ slotAt t k)
-      (root′ : word t′ rootWord ≡ word t rootWord) (head′ : (i : ℕ) → 1 ≤ i → i < 4 → word t′ i ≡ word t i) where
+      (root′ : word t′ rootWord ≡ word t rootWord) (head′ : (i : ℕ) → 1 ≤ i → i < headWords → word t′ i ≡ word t i) where
     node-below : ChangedBelow t t′ c l (mk s d p near far) (mk s d (pair g (p .far)) near′ far)
     node-below =
         record {

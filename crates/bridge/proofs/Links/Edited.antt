@@ -9,7 +9,7 @@ use lib.ListN.{set, length-set}
 use lib.Seq.{getD-set-same, getD-set-other}
 use lib.Dec.{eqb}
 use borrow.Author.Tests.{eq-eqb, ne-eqb}
-use Rattle.scope.specs.Table.{slotWords, word, rootWord, base, slotAt, slotOf, written}
+use Rattle.scope.specs.Table.{headWords, slotWords, word, rootWord, base, slotAt, slotOf, written}
 use Rattle.scope.specs.declared.side.Side.the-variants.{Left, Right}
 use Rattle.spelling.specs.Ready.{Sized}
 use Rattle.spelling.proofs.Slots.{words-slot}
@@ -68,7 +68,7 @@ module _ {t : List ℕ} {c : ℕ} (z : Sized t c) (k x : ℕ) (p : Part) where
       ]
 
   -- the words of the header but the first stay
-  put-head : (i : ℕ) → 1 ≤ i → i < 4 → word (set t (placeOf k p) x) i ≡ word t i
+  put-head : (i : ℕ) → 1 ≤ i → i < headWords → word (set t (placeOf k p) x) i ≡ word t i
   put-head i h l =
       elim (ℕ-discrete k 0) [
         | yes e ↦ rw (eq-eqb k 0 e) (getD-set-other t rootWord i x 0 (λ q. omega arith))
@@ -95,7 +95,7 @@ pub record Rewritten (t t′ : List ℕ) (c : ℕ) (es : List Edit) : Type 0 whe
   pub sized : Sized t′ c
   pub slots : (k : ℕ) → 1 ≤ k → slotAt t′ k ≡ edited es k (slotAt t k)
   pub root : word t′ rootWord ≡ rooted es (word t rootWord)
-  pub head : (i : ℕ) → 1 ≤ i → i < 4 → word t′ i ≡ word t i
+  pub head : (i : ℕ) → 1 ≤ i → i < headWords → word t′ i ≡ word t i
 
 pub rewritten : {t : List ℕ} {c : ℕ} → Sized t c → (es : List Edit) → EditsInside c es
     → Rewritten t (written t (writes es)) c es

@@ -18,12 +18,11 @@ use Rattle.spelling.proofs.Frame.{none-at-0}
 use Rattle.spelling.proofs.Once.{once-all}
 use Rattle.tree.specs.Place.{subtree}
 use Rattle.tree.proofs.Firing.Steps.{on-top}
-use Rattle.tree.proofs.Firing.Place.{Stands, stands, one-place}
+use Rattle.tree.proofs.Firing.Place.{same-none, Stands, stands, one-place}
 use Rattle.spelling.proofs.Laws.{link-son}
 use Rattle.bridge.specs.Leads.{linkAlong, Leads}
 use Rattle.bridge.proofs.Links.Looks.{look}
 use Rattle.bridge.proofs.Links.Ways.{leads, leads-holder}
-use Rattle.spelling.proofs.Frame.{same-none}
 use Rattle.bridge.proofs.Firing.Along.{hangs-along}
 use Rattle.bridge.proofs.Firing.Fires.{hangs-root}
 use Rattle.spelling.proofs.Slots.{blank-state}

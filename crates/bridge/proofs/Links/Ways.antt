@@ -12,7 +12,7 @@ use Rattle.scope.specs.declared.side.Side.{Side}
 use Rattle.scope.specs.declared.side.Side.the-variants.{Left, Right}
 use Rattle.scope.specs.declared.side.Link.{Link}
 use Rattle.tree.specs.Place.{subtree}
-use Rattle.spelling.proofs.Frame.{same-none}
+use Rattle.tree.proofs.Firing.Place.{same-none}
 use Rattle.spelling.proofs.Laws.{link-son}
 use Rattle.bridge.specs.Leads.{linkAlong, Leads}
 use Rattle.tree.proofs.Firing.Steps.{on-top}

@@ -25,7 +25,7 @@ use Rattle.tree.specs.Without.{withoutTop, withoutKey}
 use Rattle.bridge.specs.Planned.{Freed, DropDone}
 use Rattle.bridge.specs.Settled.{Spelled}
 use Rattle.bridge.proofs.Records.Seeks.{visits-high}
-use Rattle.spelling.proofs.Frame.{same-none}
+use Rattle.tree.proofs.Firing.Place.{same-none}
 use Rattle.bridge.proofs.Firing.Along.{hangs-along, cut-key}
 use Rattle.tree.proofs.Keys.Keyed.{end-there, end-found, at-times, at-size, at-ordered}
 use Rattle.tree.proofs.Keys.Lowest.{top-below, top-above, top-ordered, top-size}

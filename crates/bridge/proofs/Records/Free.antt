@@ -15,7 +15,7 @@ use Rattle.scope.specs.Post.{freeFrom, freeSlot}
 use Rattle.spelling.proofs.Laws.{fits, fit-left, fit-right, header-root}
 use Rattle.spelling.specs.Whole.{Whole}
 use Rattle.bridge.proofs.Links.Outside.{same-one}
-use Rattle.spelling.proofs.Frame.{same-none}
+use Rattle.tree.proofs.Firing.Place.{same-none}
 use Rattle.bridge.proofs.Firing.Along.{some-state}
 use Rattle.spelling.proofs.Slots.{blank-state}
 

@@ -40,7 +40,7 @@ use Rattle.spelling.proofs.Slots.{slot-here}
 use Rattle.bridge.proofs.Links.Above.{below-cut}
 use Rattle.bridge.proofs.Firing.Along.{hangs-along, cut-key}
 use Rattle.bridge.proofs.Links.Ways.{leads-holder}
-use Rattle.spelling.proofs.Frame.{same-none}
+use Rattle.tree.proofs.Firing.Place.{same-none}
 use Rattle.tree.proofs.Keys.Keyed.{end-there}
 use Rattle.tree.proofs.Keys.Grown.{end-missing, grown, grown-times, grown-size, grown-ordered}
 use Rattle.bridge.proofs.Firing.Fires.{new-header}

@@ -9,7 +9,7 @@ use lib.Dec.{eqb}
 use borrow.Author.Tests.{ne-eqb, eqb-true}
 use Rattle.scope.proofs.Bools.{by-bool}
 use Rattle.scope.specs.Numbers.{other}
-use Rattle.scope.specs.Table.{word, rootWord, slotAt, son, linkAt, registerAt, written}
+use Rattle.scope.specs.Table.{headWords, word, rootWord, slotAt, son, linkAt, registerAt, written}
 use Rattle.scope.specs.Table.{zeroSlot}
 use Rattle.scope.specs.Tree.{Batch, Tree, leaf, node, times, same}
 use Rattle.scope.specs.Sound.{Spells}
@@ -53,7 +53,7 @@ record Taken (t t₁ : List ℕ) (c : ℕ) (l : Link) (y : ℕ) : Type 0 where
   sized : Sized t₁ c
   slots : (k : ℕ) → 1 ≤ k → slotAt t₁ k ≡ cond (eqb y 0) (emptied l k (slotAt t k)) (slotRelinked l y k (slotAt t k))
   root : word t₁ rootWord ≡ cond (eqb (l .holder) 0) y (word t rootWord)
-  head : (i : ℕ) → 1 ≤ i → i < 4 → word t₁ i ≡ word t i
+  head : (i : ℕ) → 1 ≤ i → i < headWords → word t₁ i ≡ word t i
 
 module _ {t : List ℕ} {c : ℕ} (z : Sized t c) (l : Link) (held : l .holder ≤ c) (y : ℕ) where
   abbrev h : ℕ

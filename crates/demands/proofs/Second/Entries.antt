@@ -12,7 +12,7 @@ use Rattle.scope.specs.Table.{word, rootWord, countWord, slotAt}
 use Rattle.scope.specs.Tree.{Batch, Tree, leaf, node, times, Ordered}
 use Rattle.scope.specs.Sound.{Spells, batchAt, treeIn}
 use Rattle.spelling.specs.Whole.{Whole}
-use Rattle.spelling.proofs.Frame.{same-none}
+use Rattle.tree.proofs.Firing.Place.{same-none}
 use Rattle.spelling.proofs.Slots.{blank-state}
 use Rattle.ledger.specs.Entries.{Entry, lookup}
 use Rattle.ledger.specs.Sorted.{Sorted}

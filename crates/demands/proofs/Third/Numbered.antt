@@ -4,7 +4,7 @@ use mathlib.Core.Path.{_≡_, refl, ap}
 use native.Mathlib.Omega.{arith}
 use native.Mathlib.Decide.{decLe, ℕ-discrete}
 use Rattle.scope.specs.Tree.{Batch, Tree, leaf, node, size, times}
-use Rattle.spelling.proofs.Frame.{same-none}
+use Rattle.tree.proofs.Firing.Place.{same-none}
 use Rattle.tree.proofs.Shown.Sharp.{SlotsNumbered}
 use Rattle.bridge.proofs.Links.Outside.{same-one}
 

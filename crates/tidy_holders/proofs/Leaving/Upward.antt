@@ -16,7 +16,7 @@ use Rattle.spelling.specs.Whole.{Whole}
 use Rattle.spelling.proofs.Laws.{link-son}
 use Rattle.bridge.proofs.Firing.Along.{some-state}
 use Rattle.bridge.proofs.Links.Ways.{leads-holder}
-use Rattle.spelling.proofs.Frame.{same-none}
+use Rattle.tree.proofs.Firing.Place.{same-none}
 use Rattle.bridge.proofs.Firing.Fires.{hangs-root}
 use Rattle.bridge.proofs.Records.Free.{reached-fit}
 use Rattle.bridge.proofs.Firing.Calls.{LinkIn}

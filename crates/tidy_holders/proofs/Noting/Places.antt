@@ -9,7 +9,7 @@ use lib.ListN.{length, getD, set, length-set}
 use lib.Seq.{getD-set-same, getD-set-other}
 use lib.Dec.{eqb}
 use borrow.Author.Tests.{eq-eqb, ne-eqb}
-use Rattle.scope.specs.Table.{slotWords, base, linkAt, registerPlace, written}
+use Rattle.scope.specs.Table.{headWords, slotWords, base, linkPlace, linkAt, registerPlace, written}
 use Rattle.scope.specs.declared.side.Side.{Side}
 use Rattle.scope.specs.declared.side.Side.the-variants.{Left, Right}
 use Rattle.scope.specs.declared.side.Link.{Link}
@@ -23,7 +23,7 @@ use Rattle.tidy_holders.specs.Holds.{CodeIn, notedPart, noted}
 use Rattle.tidy_holders.proofs.Noting.Links.{side-most, link-code, code-link-in, held-link}
 
 -- where a link stands, said without a difference
-place : (k : ℕ) (s : Side) → 1 ≤ k → linkAt (linkFor k s) + slotWords ≡ slotWords * k + (7 + sideNumber s)
+place : (k : ℕ) (s : Side) → 1 ≤ k → linkAt (linkFor k s) + slotWords ≡ slotWords * k + (headWords + linkPlace Left + sideNumber s)
 unfolding linkAt
 place k Left i = rw (ne-eqb k 0 (λ e. omega arith)) (omega arith)
 place k Right i = rw (ne-eqb k 0 (λ e. omega arith)) (omega arith)

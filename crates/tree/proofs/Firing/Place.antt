@@ -103,8 +103,8 @@ further k s d x near far h =
       slot = h .slot;
     }
 
-same-no : (j k : ℕ) → (j ≡ k → ⊥) → same j k ≡ 0
-same-no j k ne = simp (ne-eqb j k ne)
+pub same-none : (j k : ℕ) → (j ≡ k → ⊥) → same j k ≡ 0
+same-none j k ne = simp (ne-eqb j k ne)
 
 -- every slot that a tree has stands somewhere in it
 pub stands : (k : ℕ) (T : Tree) → 1 ≤ times k T → Stands k T
@@ -123,7 +123,7 @@ stands k (node d a b l r) h =
         slot = sym e;
       }
       | no ne ↦
-          let z = same-no k (d .slot) ne in
+          let z = same-none k (d .slot) ne in
           elim (decLe 1 (times k l)) [
             | yes i ↦ further k Left d (pair a b) l r (stands k l i)
             | no i ↦ further k Right d (pair b a) r l (stands k r (omega arith))

@@ -16,6 +16,7 @@ use Rattle.tree.specs.Rewrite.{ruleOn, fireAt, rewriteTop, rewriteAt}
 use Rattle.tree.specs.Seek.{seek, visits}
 use Rattle.tree.specs.Shape.{Beside, Relaxed, Balanced, Quiet, fewest}
 use Rattle.tree.proofs.Rest.Quiet.{balanced-quiet}
+use Rattle.tree.proofs.Keys.Bounds.{below-more, above-more}
 use Rattle.tree.proofs.Shown.Marked.{batch}
 use Rattle.tree.proofs.Shown.Paper.{HeightRelaxed}
 
@@ -102,16 +103,6 @@ sparse (suc (suc h)) k =
     let root = suc (k + fewest (suc h)) in
     node (batch root) (suc h) h (sparse (suc h) k) (sparse h root)
 
-above-less : (T : Tree) (a b : ℕ) → a ≤ b → Above b T → Above a T
-unfolding Above
-above-less leaf a b l h = tt
-above-less (node d x y p q) a b l h = (omega arith, above-less p a b l (h .1), above-less q a b l (h .2))
-
-below-more : (T : Tree) (a b : ℕ) → a ≤ b → Below a T → Below b T
-unfolding Below
-below-more leaf a b l h = tt
-below-more (node d x y p q) a b l h = (omega arith, below-more p a b l (h .1), below-more q a b l (h .2))
-
 -- the slots from left to right are those after k, and each is its record's key
 abbrev pub SlotsNumbered : ℕ → Tree → Type 0
 SlotsNumbered k leaf = Unit {0}
@@ -154,11 +145,11 @@ sparse-is (suc (suc h)) k =
         inNear = x .balanced;
         inFar = y .balanced;
       };
-      above = (omega arith, x .above, above-less (sparse h root) k root (omega arith) (y .above));
+      above = (omega arith, x .above, above-more {b = root} {b' = k} (sparse h root) (omega arith) (y .above));
       below = (
         omega arith,
-        below-more (sparse (suc h) k) root (suc (k + fewest (suc (suc h)))) (omega arith) (x .below),
-        below-more (sparse h root) (suc (root + fewest h)) (suc (k + fewest (suc (suc h)))) (omega arith) (y .below),
+        below-more {b = root} {b' = suc (k + fewest (suc (suc h)))} (sparse (suc h) k) (omega arith) (x .below),
+        below-more {b = suc (root + fewest h)} {b' = suc (k + fewest (suc (suc h)))} (sparse h root) (omega arith) (y .below),
       );
       ordered = (x .below, y .above, x .ordered, y .ordered);
     }
