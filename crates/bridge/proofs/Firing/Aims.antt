@@ -33,7 +33,8 @@ use Rattle.bridge.specs.Below.{Hangs, ChangedBelow}
 use Rattle.bridge.specs.Alike.{guard-fails, too-high, Alike}
 use Rattle.bridge.proofs.Links.Looks.{Looks, look}
 use Rattle.bridge.proofs.Links.Outside.{same-one, StandsIn}
-use Rattle.bridge.proofs.Firing.Turns.{look-v, look-u, v-in, u-in, x-y, not-holder, twoNodes, propagate-below, rotate-below}
+use Rattle.bridge.proofs.Firing.Turns.{look-v, look-u, v-in, u-in, x-y, not-holder, twoNodes}
+use Rattle.bridge.proofs.Firing.Turns.{propagate-below, rotate-below}
 use Rattle.bridge.proofs.Firing.Twice.{look-w, w-in, x-z, y-z, threeNodes, twice-below}
 
 -- a node that is none of the slots before it is taken

@@ -77,7 +77,8 @@ same-along {t} {c} r (s ∷ way) l T S h g e =
     let held : Held t c (record { holder = word t (linkAt l); side = s })
     = by-bool (eqb (word t (linkAt l)) 0) (λ z. simp z) (λ z. simp z (holder-fit l s d p near far k)) in
     simp top-is
-    (hung-alike t _ _ s d p far (fireAt way r near) (acceptAt way r near) _ (λ near′ t′ b. changed-above l s d p near far k near′ b)
+    (hung-alike t _ _ s d p far (fireAt way r near) (acceptAt way r near) _
+    (λ near′ t′ b. changed-above l s d p near far k near′ b)
     (same-along r way (record { holder = word t (linkAt l); side = s }) near S (hangs-down l s d p near far k) held q)))
     h
 

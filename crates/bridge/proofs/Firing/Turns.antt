@@ -8,8 +8,7 @@ use Rattle.scope.specs.Numbers.{other, mostHeight}
 use Rattle.scope.specs.Table.{word, slotAt, son, linkAt, written}
 use Rattle.scope.specs.Tree.{Batch, Tree, times, same}
 use Rattle.scope.specs.Sound.{Spells}
-use Rattle.scope.specs.Rules.{seen, pair, localh, turnedV}
-use Rattle.scope.specs.Rules as rules
+use Rattle.scope.specs.Rules.{seen, pair, localh, turnedV, propagated, rotated}
 use Rattle.scope.specs.declared.rule.Pair.{Pair}
 use Rattle.scope.specs.declared.side.Side.{Side}
 use Rattle.scope.specs.declared.side.Link.{Link}
@@ -75,18 +74,18 @@ module _ {t : List ℕ} {c : ℕ} (l : Link) (s : Side) (dv du : Batch) (v u : P
     abbrev pub twoNodes : Nodes
     twoNodes = record { link = l; v = x; u = y; w = w; sv = slotAt t x; su = slotAt t y; sw = sw }
 
-    propagate-in : InTree c (mk s dv v (mk s du u m n) far) (rules.propagated s twoNodes)
+    propagate-in : InTree c (mk s dv v (mk s du u m n) far) (propagated s twoNodes)
     propagate-in = (v-in, tt)
 
-    module _ {t′ : List ℕ} (r : Rewritten t t′ c (rules.propagated s twoNodes)) (low : localh u ≤ mostHeight) where
+    module _ {t′ : List ℕ} (r : Rewritten t t′ c (propagated s twoNodes)) (low : localh u ≤ mostHeight) where
       slot-v : slotAt t′ x ≡ shape s (slotAt t x) y (son (slotAt t x) (other s))
           (pair (localh (seen s (slotAt t y))) (seen s (slotAt t x) .far))
       unfolding edited
       slot-v =
-          r .slots x (look-v .there) ∙ ap (edited (rules.propagated s twoNodes) x) (sym (shape-self s (slotAt t x)))
+          r .slots x (look-v .there) ∙ ap (edited (propagated s twoNodes) x) (sym (shape-self s (slotAt t x)))
           ∙ simp (eq-eqb x x refl, near-register)
 
-      propagate-away : (k : ℕ) → 1 ≤ same k y + (times k m + times k n) + times k far → Away k (rules.propagated s twoNodes)
+      propagate-away : (k : ℕ) → 1 ≤ same k y + (times k m + times k n) + times k far → Away k (propagated s twoNodes)
       propagate-away k i = (λ q. omega (arith, total k, h .once k, same-one k x q), tt)
 
       propagate-spells : Spells t′ c x (propagatedTree s dv du v u m n far)
@@ -98,27 +97,29 @@ module _ {t : List ℕ} {c : ℕ} (l : Link) (s : Side) (dv du : Batch) (v u : P
           (fv .other-links y (son (slotAt t x) (other s)) (pair (localh u) (seen s (slotAt t x) .far))
           (link-on c y (localh u) (look-u .there) y-most low) (fv .far))
           (look-v .holds)
-          (stays (rules.propagated s twoNodes) r y (mk s du u m n)
+          (stays (propagated s twoNodes) r y (mk s du u m n)
           (λ k i. propagate-away k (omega (
             arith,
             times-mk s du u m n k,
             ap (λ (d : Batch). same k (d .slot))
                 (look-u .holds),
           ))) (look-v .nearSon))
-          (stays (rules.propagated s twoNodes) r (son (slotAt t x) (other s)) far (λ k i. propagate-away k (omega arith)) (look-v .farSon)))
+          (stays (propagated s twoNodes) r (son (slotAt t x) (other s)) far (λ k i. propagate-away k (omega arith))
+          (look-v .farSon)))
 
     pub propagate-below : localh u ≤ mostHeight
-        → ChangedBelow t (written t (writes (rules.propagated s twoNodes))) c l (mk s dv v (mk s du u m n) far) (propagatedTree s dv du v u m n far)
+        → ChangedBelow t (written t (writes (propagated s twoNodes))) c l (mk s dv v (mk s du u m n) far)
+        (propagatedTree s dv du v u m n far)
     propagate-below low =
-        let r = rewritten (h .sized) (rules.propagated s twoNodes) (in-inside c _ (rules.propagated s twoNodes) propagate-in) in
+        let r = rewritten (h .sized) (propagated s twoNodes) (in-inside c _ (propagated s twoNodes) propagate-in) in
         (record {
           sized = r .sized;
           top = x;
           first = look-v .there;
           most = h .most;
           spells = propagate-spells r low;
-          slots = λ k i z. left-slots _ (rules.propagated s twoNodes) propagate-in r k i z ∙ steady t l k i;
-          root = left-root _ (rules.propagated s twoNodes) propagate-in r ∙ steady-root t l;
+          slots = λ k i z. left-slots _ (propagated s twoNodes) propagate-in r k i z ∙ steady t l k i;
+          root = left-root _ (propagated s twoNodes) propagate-in r ∙ steady-root t l;
           head = r .head;
         })
 
@@ -134,13 +135,13 @@ module _ {t : List ℕ} {c : ℕ} (l : Link) (s : Side) (dv du : Batch) (v u : P
     rotate-in : InTree c (mk s dv v (mk s du u m n) far) turns
     rotate-in = (u-in, (v-in, (v-in, (u-in, tt))))
 
-    module _ {t′ : List ℕ} (r : Rewritten t t′ c (rules.rotated s twoNodes)) (low : localh (turnedV v u) ≤ mostHeight) where
+    module _ {t′ : List ℕ} (r : Rewritten t t′ c (rotated s twoNodes)) (low : localh (turnedV v u) ≤ mostHeight) where
       rotated-v : slotAt t′ x
           ≡ shape s (slotAt t x) (son (slotAt t y) (other s)) (son (slotAt t x) (other s))
           (turnedV (seen s (slotAt t x)) (seen s (slotAt t y)))
       unfolding edited
       rotated-v =
-          r .slots x (look-v .there) ∙ ap (edited (rules.rotated s twoNodes) x) (sym (shape-self s (slotAt t x)))
+          r .slots x (look-v .there) ∙ ap (edited (rotated s twoNodes) x) (sym (shape-self s (slotAt t x)))
           ∙ simp (ne-eqb x (l .holder) (not-holder x x-once), ne-eqb x y x-y, eq-eqb x x refl, near-son, near-register)
 
       rotated-u : slotAt t′ y
@@ -148,10 +149,10 @@ module _ {t : List ℕ} {c : ℕ} (l : Link) (s : Side) (dv du : Batch) (v u : P
           (pair (seen s (slotAt t y) .near) (localh (turnedV (seen s (slotAt t x)) (seen s (slotAt t y)))))
       unfolding edited
       rotated-u =
-          r .slots y (look-u .there) ∙ ap (edited (rules.rotated s twoNodes) y) (sym (shape-self s (slotAt t y)))
+          r .slots y (look-u .there) ∙ ap (edited (rotated s twoNodes) y) (sym (shape-self s (slotAt t y)))
           ∙ simp (ne-eqb y (l .holder) (not-holder y y-once), ne-eqb y x (λ q. x-y (sym q)), eq-eqb y y refl, far-son, far-register)
 
-      rotate-away : (k : ℕ) → 1 ≤ times k m + times k n + times k far → Away k (rules.rotated s twoNodes)
+      rotate-away : (k : ℕ) → 1 ≤ times k m + times k n + times k far → Away k (rotated s twoNodes)
       rotate-away k i =
           let nx : k ≡ x → ⊥ = λ q. omega (arith, total k, h .once k, same-one k x q) in
           let ny : k ≡ y → ⊥ = λ q. omega (arith, total k, h .once k, same-one k y q) in
@@ -166,17 +167,18 @@ module _ {t : List ℕ} {c : ℕ} (l : Link) (s : Side) (dv du : Batch) (v u : P
           (spell t′ c y du _ m _ s (slotAt t y) (son (slotAt t y) s) x (look-u .there) rotated-u
           (fu .other-links _ x _ (fu .near) (link-on c x _ (look-v .there) (h .most) high))
           (look-u .holds)
-          (stays (rules.rotated s twoNodes) r _ m (λ k i. rotate-away k (omega arith)) (look-u .nearSon))
+          (stays (rotated s twoNodes) r _ m (λ k i. rotate-away k (omega arith)) (look-u .nearSon))
           (spell t′ c x dv _ n far s (slotAt t x) _ _ (look-v .there) rotated-v
           (fv .other-links _ _ _ (fu .far) (fv .far))
           (look-v .holds)
-          (stays (rules.rotated s twoNodes) r _ n (λ k i. rotate-away k (omega arith)) (look-u .farSon))
-          (stays (rules.rotated s twoNodes) r _ far (λ k i. rotate-away k (omega arith)) (look-v .farSon))))
+          (stays (rotated s twoNodes) r _ n (λ k i. rotate-away k (omega arith)) (look-u .farSon))
+          (stays (rotated s twoNodes) r _ far (λ k i. rotate-away k (omega arith)) (look-v .farSon))))
 
     pub rotate-below : localh (turnedV v u) ≤ mostHeight
-        → ChangedBelow t (written t (writes (rules.rotated s twoNodes))) c l (mk s dv v (mk s du u m n) far) (rotatedTree s dv du v u m n far)
+        → ChangedBelow t (written t (writes (rotated s twoNodes))) c l (mk s dv v (mk s du u m n) far)
+        (rotatedTree s dv du v u m n far)
     rotate-below low =
-        let r = rewritten (h .sized) (rules.rotated s twoNodes) (h .holder, in-inside c _ turns rotate-in) in
+        let r = rewritten (h .sized) (rotated s twoNodes) (h .holder, in-inside c _ turns rotate-in) in
         (record {
           sized = r .sized;
           top = y;

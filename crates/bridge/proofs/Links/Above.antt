@@ -140,7 +140,8 @@ module _ {t : List ℕ} {c : ℕ} (l : Link) (s : Side) (d : Batch) (p : Pair) (
         ∙ near-son s r _ _ _ (b .top) ∙ rw (top .registers) refl))
         (λ k i z ne. b .slots k i z ∙ rw (e, ne-eqb k x ne)) (b .root ∙ rw not-root) (b .head)
 
-    pub changed-above : (near′ : Tree) → ChangedBelow t t′ c down near near′ → ChangedBelow t t′ c l (mk s d p near far) (mk s d p near′ far)
+    pub changed-above : (near′ : Tree) → ChangedBelow t t′ c down near near′
+        → ChangedBelow t t′ c l (mk s d p near far) (mk s d p near′ far)
     unfolding Spells
     changed-above leaf b = absurd (omega (arith, b .first, b .spells))
     changed-above (node d′ a′ b′ l′ r′) b = above-cut (node d′ a′ b′ l′ r′) (below-cut b)

@@ -23,7 +23,8 @@ use Rattle.tidy_holders.specs.Holds.{CodeIn, notedPart, noted}
 use Rattle.tidy_holders.proofs.Noting.Links.{side-most, link-code, code-link-in, held-link}
 
 -- where a link stands, said without a difference
-place : (k : ℕ) (s : Side) → 1 ≤ k → linkAt (linkFor k s) + slotWords ≡ slotWords * k + (headWords + linkPlace Left + sideNumber s)
+place : (k : ℕ) (s : Side) → 1 ≤ k
+    → linkAt (linkFor k s) + slotWords ≡ slotWords * k + (headWords + linkPlace Left + sideNumber s)
 unfolding linkAt
 place k Left i = rw (ne-eqb k 0 (λ e. omega arith)) (omega arith)
 place k Right i = rw (ne-eqb k 0 (λ e. omega arith)) (omega arith)
