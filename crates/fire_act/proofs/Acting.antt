@@ -14,9 +14,9 @@ use Rattle.fire_act.specs.Wrote.{InNodes, Kept, HeightsLow}
 
 module _ {t : List ℕ} {c : ℕ} {r : Rule} {n : Nodes} (s : Sized t c) (w : NodesWithin c r n) (k : Kind) (e : r .kind ≡ k) where
   -- what an action asks
-  pub asked : InNodes t c n × HeightsLow k (r .side) n
+  pub nodes-asked : InNodes t c n × HeightsLow k (r .side) n
   unfolding highestAt
-  asked = (record { sized = s; nodes = w .nodes }, rw e at (w .height))
+  nodes-asked = (record { sized = s; nodes = w .nodes }, rw e at (w .height))
 
   -- what it does
   pub acted : {u : List ℕ} → Kept c (written t (writes (action k (r .side) n))) u → Kept c (written t (actionAt r n)) u

@@ -1,6 +1,6 @@
 -- `fire_act::action::act` meets its contract. Assumes nothing.
 use borrow.Author.Needs.{needs}
-use Rattle.fire_act.proofs.Acting.{asked, acted}
+use Rattle.fire_act.proofs.Acting.{nodes-asked, acted}
 use Rattle.scope.specs.declared.rule.Kind.the-variants.{Propagate, Lean, Even, Double}
 use Rattle.fire_act.proofs.action.act.Statement.{statement}
 use Rattle.fire_act.proofs.action.act.Tie as tie
@@ -9,16 +9,16 @@ enum-told : tie.Need-enum-told
 enum-told c = search needs
 
 propagate-requires : tie.Need-propagate-requires
-propagate-requires c κs = let p = c .before .before .before .before .pre in asked (p .0) (p .1) Propagate (c .before .enum-told .given .1)
+propagate-requires c κs = let p = c .before .before .before .before .pre in nodes-asked (p .0) (p .1) Propagate (c .before .enum-told .given .1)
 
 rotate-requires : tie.Need-rotate-requires
-rotate-requires c κs = let p = c .before .before .before .before .pre in asked (p .0) (p .1) Lean (c .before .enum-told2 .given .1)
+rotate-requires c κs = let p = c .before .before .before .before .pre in nodes-asked (p .0) (p .1) Lean (c .before .enum-told2 .given .1)
 
 rotate-requires-2 : tie.Need-rotate-requires-2
-rotate-requires-2 c κs = let p = c .before .before .before .before .pre in asked (p .0) (p .1) Even (c .before .enum-told3 .given .1)
+rotate-requires-2 c κs = let p = c .before .before .before .before .pre in nodes-asked (p .0) (p .1) Even (c .before .enum-told3 .given .1)
 
 rotate-twice-requires : tie.Need-rotate-twice-requires
-rotate-twice-requires c κs = let p = c .before .before .before .before .pre in asked (p .0) (p .1) Double (c .before .enum-told4 .given .1)
+rotate-twice-requires c κs = let p = c .before .before .before .before .pre in nodes-asked (p .0) (p .1) Double (c .before .enum-told4 .given .1)
 
 returns : tie.Need-returns
 returns c =

@@ -1,7 +1,7 @@
 -- `tidy::run::act_and_note` meets its contract. Assumes nothing.
 use borrow.Author.Needs.{needs}
 use Rattle.scope.specs.declared.rule.Kind.the-variants.{Propagate, Lean, Even, Double}
-use Rattle.fire_act.proofs.Acting.{asked}
+use Rattle.fire_act.proofs.Acting.{nodes-asked}
 use Rattle.tidy.proofs.Firing.{acted-alone, acted-noted}
 use Rattle.tidy.proofs.run.act_and_note.Statement.{statement}
 use Rattle.tidy.proofs.run.act_and_note.Tie as tie
@@ -13,25 +13,25 @@ propagate-requires : tie.Need-propagate-requires
 propagate-requires c κs =
     let w = c .before .before .before .before in
     let p = w .pre in
-    asked (p .sized) (p .within) Propagate (c .before .enum-told .given .1)
+    nodes-asked (p .sized) (p .within) Propagate (c .before .enum-told .given .1)
 
 rotate-requires : tie.Need-rotate-requires
 rotate-requires c κs =
     let w = c .before .before .before .before in
     let p = w .pre in
-    asked (p .sized) (p .within) Lean (c .before .enum-told2 .given .1)
+    nodes-asked (p .sized) (p .within) Lean (c .before .enum-told2 .given .1)
 
 rotate-requires-2 : tie.Need-rotate-requires-2
 rotate-requires-2 c κs =
     let w = c .before .before .before .before in
     let p = w .pre in
-    asked (p .sized) (p .within) Even (c .before .enum-told3 .given .1)
+    nodes-asked (p .sized) (p .within) Even (c .before .enum-told3 .given .1)
 
 rotate-twice-requires : tie.Need-rotate-twice-requires
 rotate-twice-requires c κs =
     let w = c .before .before .before .before in
     let p = w .pre in
-    asked (p .sized) (p .within) Double (c .before .enum-told4 .given .1)
+    nodes-asked (p .sized) (p .within) Double (c .before .enum-told4 .given .1)
 
 returns : tie.Need-returns
 returns c =
