@@ -47,8 +47,8 @@ pub record Demand2 (t : List ℕ) (c : ℕ) : Type 0 where
   -- and as many as word 1 counts
   pub count : length (ledgerOf t c .entries) ≡ word t countWord
   -- any list of calls answers as on the ledger and leaves what it leaves of the ledger. Slots and how many were visited
-  -- are not compared; of the slot of a rank it is the record in it that is. A ledger knows nothing of worth, fire and tidy:
-  -- here it is compared only what they leave, and what they answer is said below and in `told` of demand 3
+  -- are not compared; of the slot of a rank it is the record in it that is. Of worth, fire and tidy, which a ledger does not
+  -- know, only what they leave is compared here: what they answer is said below, and in `told` of demand 3
   pub as-list : (xs : List Call) → SameCalls xs t c
   -- fire takes a rule just where its guard holds and every new height fits a register; then the tree changes as the rule
   -- says, and the records, their slots and the change number stay
