@@ -10,7 +10,7 @@ unsafe fn word(t: *const u32, k: usize, field: usize) -> u32 {
     *t.add(length(k - 1) + field)
 }
 
-/// Writes the answer of a hit or a miss, as find gives it.
+/// Writes the answer of a hit as find gives it; a miss names no neighbours.
 #[inline]
 unsafe fn answer(t: *const u32, k: usize, visits: u64, out: *mut u64) {
     let out = &mut *out.cast::<Answer>();

@@ -1,4 +1,5 @@
 //! An earlier library beside ours in the same run: the shared object that the variable BEFORE names, if there is one.
+//! The variable SAME_WAY then names a shared object of ours, made in the same way.
 
 use std::ffi::{c_char, c_int, c_void, CString};
 use std::mem::transmute_copy;
@@ -7,7 +8,7 @@ use std::sync::OnceLock;
 pub const BEFORE: &str = "before";
 
 type Asks = unsafe extern "C" fn(*const u32, usize, *mut u64);
-type AsksWith = unsafe extern "C" fn(*const u32, usize, u32, *mut u64);
+pub type AsksWith = unsafe extern "C" fn(*const u32, usize, u32, *mut u64);
 type WritesWith = unsafe extern "C" fn(*mut u32, usize, u32, *mut u64);
 type WritesRecord = unsafe extern "C" fn(*mut u32, usize, u32, u32, u32, *mut u64);
 
@@ -58,5 +59,17 @@ fn load(file: &str) -> Before {
 /// The earlier library, loaded once.
 pub fn before() -> Option<Before> {
     static LOADED: OnceLock<Option<Before>> = OnceLock::new();
-    *LOADED.get_or_init(|| std::env::var("BEFORE").ok().filter(|file| !file.is_empty()).map(|file| load(&file)))
+    *LOADED.get_or_init(|| told("BEFORE"))
+}
+
+/// The find of ours and of the earlier library, both loaded in the same way: neither gains by how it is linked.
+pub fn find_now_and_before() -> Option<(AsksWith, AsksWith)> {
+    static LOADED: OnceLock<Option<Before>> = OnceLock::new();
+    let now = (*LOADED.get_or_init(|| told("SAME_WAY")))?;
+    Some((now.find, before()?.find))
+}
+
+/// The library that a variable names, if it names one.
+fn told(variable: &str) -> Option<Before> {
+    std::env::var(variable).ok().filter(|file| !file.is_empty()).map(|file| load(&file))
 }

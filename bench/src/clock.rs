@@ -57,6 +57,31 @@ pub fn contest(mut turns: Vec<Turn>, share: Duration) -> Vec<Best> {
     best
 }
 
+/// The time of one contestant over that of another: the middle ratio of so many rounds.
+pub struct Over {
+    pub ratio: f64,
+    pub rounds: usize,
+}
+
+/// Two contestants alone, each the first in every other round, for a share of time: noise that lasts longer than a round
+/// hits both alike.
+pub fn turn_about(one: impl Fn(u64) -> f64, other: impl Fn(u64) -> f64, share: Duration) -> Over {
+    let ratio = |round| {
+        if round % 2 == 0 {
+            let seconds = one(round);
+            seconds / other(round)
+        } else {
+            let seconds = other(round);
+            one(round) / seconds
+        }
+    };
+    let start = Instant::now();
+    let more = |round: &u64| *round < LEAST_ROUNDS || start.elapsed() < share;
+    let mut ratios: Vec<f64> = (0..).take_while(more).map(ratio).collect();
+    ratios.sort_by(f64::total_cmp);
+    Over { ratio: ratios[ratios.len() / 2], rounds: ratios.len() }
+}
+
 /// The best time of a contestant.
 pub fn of(results: &[Best], name: &str) -> Option<f64> {
     results.iter().find(|best| best.name == name).map(|best| best.seconds)

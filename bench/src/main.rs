@@ -25,6 +25,7 @@ mod trees;
 mod whole;
 mod words;
 
+use clock::Over;
 use report::{count, filled, ratio, table, time, Row};
 use stand::Stood;
 use std::path::PathBuf;
@@ -40,6 +41,7 @@ fn main() {
     let load = machine::load();
     agree::agree(agree::CASES);
     let finds = measures::all_finds();
+    let over_before = measures::all_over_before();
     let records = measures::all_records();
     let whole = measures::all_whole();
     let tidies = measures::all_tidies();
@@ -67,7 +69,7 @@ fn main() {
         ("absent", machine::absent()),
         ("targets", targets.table()),
         ("limit", limit(&finds[..2])),
-        ("finds", table(&finds)),
+        ("finds", table(&finds) + &before_lines(&over_before)),
         ("records", table(&records)),
         ("whole", table(&whole)),
         ("tidies", table(&tidy_rows)),
@@ -89,6 +91,21 @@ fn limit(finds: &[Row]) -> String {
     };
     let all: Vec<String> = finds.iter().filter_map(one).collect();
     format!("No target, but the limit: beside the fastest of the four bare walks, find takes {}.", all.join(" and "))
+}
+
+/// What find takes of the earlier library's time, a line for each workload; nothing if there was no such library.
+fn before_lines(all: &[(String, Over)]) -> String {
+    if all.is_empty() {
+        return String::new();
+    }
+    let mut text =
+        "\nOurs beside the earlier library alone, both loaded in the same way and called in turns".to_string();
+    text += " on the same words; each ratio is the middle one of all rounds.\n\n";
+    for (what, over) in all {
+        let rounds = count(over.rounds as u64);
+        text += &format!("- find, {what}: {:.3} of before ({rounds} rounds)\n", over.ratio);
+    }
+    text
 }
 
 /// The runs of tidy as rows, with their firings.

@@ -1,8 +1,8 @@
 //! All that is measured, in the order in which it is measured.
 
-use crate::batches::{by_stamp, in_order, posted, with_random_registers, Order};
-use crate::clock::Best;
-use crate::finds::{finds, Pace, Wanted};
+use crate::batches::{by_stamp, in_order, posted, with_random_registers, Batch, Order};
+use crate::clock::{Best, Over};
+use crate::finds::{finds, over_before, Pace, Wanted};
 use crate::plot::{Line, Panel};
 use crate::postings::{drops, postings};
 use crate::report::Row;
@@ -18,9 +18,10 @@ pub const SIZES: [usize; 5] = [15, 63, 255, 1_023, 4_095];
 const FULL: usize = SIZES[4];
 
 /// The time that each contestant has in a workload of the tables, and of the plot; a find is short and its tables close,
-/// so there each has four times as long to meet a quiet moment.
+/// so there each has four times as long to meet a quiet moment, and ours beside an earlier library still longer.
 const SHARE: Duration = Duration::from_millis(250);
 const FIND_SHARE: Duration = Duration::from_millis(1_000);
+const BEFORE_SHARE: Duration = Duration::from_millis(3_000);
 const SMALL_SHARE: Duration = Duration::from_millis(60);
 
 /// The largest height that the random registers get.
@@ -33,28 +34,48 @@ fn say(what: &str) {
     eprintln!("measuring {what}");
 }
 
-/// find on the full table: after tidying and before, hits and misses.
-pub fn all_finds() -> Vec<Row> {
+/// The full tables that find is measured on, after tidying and before, with the postings that made them.
+fn find_tables() -> [(&'static str, Vec<u32>, Vec<Batch>); 3] {
     let batches = by_stamp(FULL);
     let random = in_order(&batches, Order::Random, 0);
     let loose = posted(&random);
-    let tight = tidied(&loose);
     let chain = posted(&batches);
+    [
+        ("after tidying", tidied(&loose), random.clone()),
+        ("before tidying, random postings", loose, random),
+        ("before tidying, ascending postings", chain, batches),
+    ]
+}
+
+const BOTH: [(&str, Wanted); 2] = [("hits", Wanted::Hits), ("misses", Wanted::Misses)];
+
+/// find on the full table: after tidying and before, hits and misses.
+pub fn all_finds() -> Vec<Row> {
+    let tables = find_tables();
     let mut rows = Vec::new();
-    for (when, words, list) in [
-        ("after tidying", &tight, &random),
-        ("before tidying, random postings", &loose, &random),
-        ("before tidying, ascending postings", &chain, &batches),
-    ] {
-        for (name, wanted) in [("hits", Wanted::Hits), ("misses", Wanted::Misses)] {
+    for (when, words, list) in &tables {
+        for (name, wanted) in BOTH {
             let what = format!("{name} {when}");
             say(&format!("find, {what}"));
             rows.push(Row::new(what, finds(words, list, wanted, Pace::Free, FIND_SHARE)));
         }
     }
-    let waiting = finds(&tight, &random, Wanted::Hits, Pace::Waiting, FIND_SHARE);
+    let (_, tight, random) = &tables[0];
+    let waiting = finds(tight, random, Wanted::Hits, Pace::Waiting, FIND_SHARE);
     rows.push(Row::new("hits after tidying, each waiting for the answer before", waiting));
     rows
+}
+
+/// The same finds, but for those that wait, of ours over the earlier library; nothing if there is none.
+pub fn all_over_before() -> Vec<(String, Over)> {
+    let mut all = Vec::new();
+    for (when, words, list) in &find_tables() {
+        for (name, wanted) in BOTH {
+            let over = over_before(words, list, wanted, BEFORE_SHARE);
+            all.extend(over.map(|over| (format!("{name} {when}"), over)));
+        }
+    }
+    all
 }
 
 /// Postings in three orders, and drops.

@@ -1,6 +1,6 @@
 //! A contestant's store of records, whatever it is made of: all are called through pointers of the same shape.
 
-use crate::before::{before, BEFORE};
+use crate::before::{before, find_now_and_before, BEFORE};
 use crate::words::{length, Answer};
 use crate::{bare, ours, plain, trees};
 use std::ffi::c_void;
@@ -72,6 +72,12 @@ pub fn promised() -> Vec<Calls> {
     ];
     all.extend(before().map(|b| on_words(BEFORE, b.find, Some((b.post, b.drop)))));
     all
+}
+
+/// Ours and the earlier library, for finds only, both loaded in the same way.
+pub fn now_and_before() -> Option<(Calls, Calls)> {
+    let (now, before) = find_now_and_before()?;
+    Some((on_words(OURS, now, None), on_words(BEFORE, before, None)))
 }
 
 /// The walks that test nothing.

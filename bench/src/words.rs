@@ -94,6 +94,11 @@ pub fn refuse(code: u64) -> Answer {
     [code, 0, 0, 0, 0]
 }
 
+/// The refusal of an absent key, with its neighbours.
+pub fn miss(smaller: u32, larger: u32) -> Answer {
+    [KEY_ABSENT, 0, smaller.into(), larger.into(), 0]
+}
+
 /// An accepted call that leaves this header.
 pub fn accept(header: &Header, value: u64, more: u64, kind: u64) -> Answer {
     [0, u64::from(header[CHANGE]), value, more, kind]

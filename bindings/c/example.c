@@ -1,4 +1,4 @@
-/* Posts the three batches of the worked case, tidies the table, and shows answers and refusals. */
+/* Posts the three batches of the worked case, tidies the table, and shows answers, refusals and the nearest stamps. */
 #include <inttypes.h>
 #include <stdio.h>
 
@@ -13,6 +13,15 @@ static void show(const char *what, const uint64_t out[FTK_NUMBERS])
 {
     printf("%-16s code=%" PRIu64 " change=%" PRIu64 " value=%" PRIu64 " more=%" PRIu64 " kind=%" PRIu64 "\n", what,
            out[FTK_CODE], out[FTK_CHANGE], out[FTK_VALUE], out[FTK_MORE], out[FTK_KIND]);
+}
+
+/* The stamps on each side of one that is not there, as find, amend and drop tell them with code 5; 0 is none. */
+static void nearest(const uint64_t out[FTK_NUMBERS])
+{
+    if (out[FTK_VALUE] != 0)
+        printf("  nearest before: %" PRIu64 "\n", out[FTK_VALUE]);
+    if (out[FTK_MORE] != 0)
+        printf("  nearest after: %" PRIu64 "\n", out[FTK_MORE]);
 }
 
 /* The records in key order, by rank. */
@@ -52,6 +61,13 @@ int main(void)
     show("tidy 10", out);
     ftk_worth(table, words, out);
     show("worth", out);
+
+    ftk_find(table, words, 511, out); /* a minute out */
+    show("find 511", out);
+    nearest(out);
+    ftk_amend(table, words, 541, 600, FTK_REMELT, out); /* a minute out, after the last */
+    show("amend 541", out);
+    nearest(out);
 
     ftk_amend(table, words, 540, 600, FTK_REMELT, out);
     show("amend 540", out);

@@ -29,9 +29,12 @@
  * A figure that you keep or show belongs to its change number: it is old once another accepted call on the same table
  * answers another one. Firings do not move it, and a table that is started again counts from 0.
  *
- * A refusal writes its code and four zeros to `out`, and no word of the table. `t` may be any pointer to n words
- * (not null, aligned for uint32_t, even if n is 0); `out` may not lie inside the table. Two calls may run at the
- * same time on one table only if both take it as const.
+ * A refusal writes no word of the table, and to `out` its code and four zeros, with one exception: where find, amend
+ * or drop do not find the key (5), out[FTK_VALUE] is the nearest smaller key that is there and out[FTK_MORE] the
+ * nearest larger one, 0 for none; the change number and the kind are 0 as in every refusal.
+ *
+ * `t` may be any pointer to n words (not null, aligned for uint32_t, even if n is 0); `out` may not lie inside the
+ * table. Two calls may run at the same time on one table only if both take it as const.
  */
 #ifndef FUTTOCKRAM_H
 #define FUTTOCKRAM_H
@@ -94,7 +97,7 @@ extern "C" {
 #define FTK_OUT_OF_RANGE 2u /* an argument is outside the range told at the call */
 #define FTK_DAMAGED 3u      /* the call met words that no sound table has */
 #define FTK_KEY_PRESENT 4u  /* post: the key is there already */
-#define FTK_KEY_ABSENT 5u   /* find, amend, drop: the key is not there; rank: fewer records than that */
+#define FTK_KEY_ABSENT 5u   /* find, amend, drop: no such key, the nearest are told; rank: fewer records than that */
 #define FTK_NO_FREE_SLOT 6u /* post: no slot is free */
 #define FTK_LAST_CHANGE 7u  /* post, amend, drop: the change number has reached its limit */
 #define FTK_GUARD_FAILS 8u  /* fire: the rule does not apply at that link */
@@ -116,7 +119,9 @@ void ftk_check(const uint32_t *t, size_t n, uint64_t out[FTK_NUMBERS]);
 /*
  * Finds the record of a key. key: 1 to 4,294,967,295.
  * value: its pieces; more: the slots visited, the found one counted; kind: its state.
- * Refusals: 1; 2 key 0; 3 if the header or a slot on the way is bad or the way is longer than the table; 5.
+ * Refusals: 1; 2 key 0; 3 if the header or a slot on the way is bad or the way is longer than the table; 5 with the
+ * nearest keys: value the smaller one, more the larger one, 0 for none. If the table is damaged but the way comes to an
+ * end, they are the last keys passed on each side, and nearer ones may be there.
  */
 void ftk_find(const uint32_t *t, size_t n, uint32_t key, uint64_t out[FTK_NUMBERS]);
 
@@ -131,7 +136,7 @@ void ftk_post(uint32_t *t, size_t n, uint32_t key, uint32_t pieces, uint32_t sta
 /*
  * Gives the record of a key other pieces and another state; ranges as for post. Counts one change more.
  * value: the slot.
- * Refusals: 1; 2; 3 as for find; 5; 7.
+ * Refusals: 1; 2; 3 as for find; 5 as for find, with the nearest keys in value and more; 7.
  */
 void ftk_amend(uint32_t *t, size_t n, uint32_t key, uint32_t pieces, uint32_t state, uint64_t out[FTK_NUMBERS]);
 
@@ -139,14 +144,15 @@ void ftk_amend(uint32_t *t, size_t n, uint32_t key, uint32_t pieces, uint32_t st
  * Removes the record of a key and frees a slot. A record with two sons stays in its place and takes over the next
  * larger record, whose slot is freed instead: value tells which slot it was. A register beside a link left empty
  * becomes 0; the others stay. Counts one record less and one change more.
- * Refusals: 1; 2 key 0; 3 as for find, the way going on to the next larger record; 5; 3 if the header counts no
- * record; 7.
+ * Refusals: 1; 2 key 0; 3 as for find, the way going on to the next larger record; 5 as for find, with the nearest
+ * keys in value and more; 3 if the header counts no record; 7.
  */
 void ftk_drop(uint32_t *t, size_t n, uint32_t key, uint64_t out[FTK_NUMBERS]);
 
 /*
  * Finds the record with the r-th smallest key, r from 1. value: its slot.
- * Refusals: 1; 2 r is 0; 3 exactly if the table is not sound; 5 r is above the number of records.
+ * Refusals: 1; 2 r is 0; 3 exactly if the table is not sound; 5 with four zeros if r is above the number
+ * of records.
  */
 void ftk_rank(const uint32_t *t, size_t n, uint32_t r, uint64_t out[FTK_NUMBERS]);
 

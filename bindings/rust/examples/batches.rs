@@ -1,4 +1,5 @@
-//! Posts a few batches, tidies, lists them in key order, tells an old figure, and shows refusals to a person.
+//! Posts a few batches, tidies, lists them in key order, tells an old figure, and shows refusals to a person: among
+//! them stamps a minute out, with the nearest ones.
 
 use futtockram::{words_for, Answer, Refusal, Rule, Side, State, Table};
 
@@ -31,6 +32,16 @@ fn main() -> Result<(), Refusal> {
     println!("{} records at change {}", records.is.len(), records.change);
     for record in records.is {
         println!("slot {}: key {}, {} pieces, {:?}", record.slot, record.key, record.pieces, record.state);
+    }
+    // A label was read a minute late: the refusal names the nearest stamps, and the planner takes the earlier one.
+    if let Err(refusal) = table.find(511) {
+        println!("{refusal}");
+        if let Refusal::KeyAbsent { below: Some(meant), .. } = refusal {
+            println!("{meant} was meant: {} pieces", table.find(meant)?.is.pieces);
+        }
+    }
+    if let Err(refusal) = table.drop(541) {
+        println!("{refusal}");
     }
     if let Err(refusal) = table.post(540, 1, State::Poured) {
         println!("{refusal}");

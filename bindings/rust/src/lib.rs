@@ -16,7 +16,27 @@
 //! let tidied = table.tidy(10)?;
 //! assert_eq!((tidied.is.firings, tidied.is.quiet), (4, true));
 //! assert_eq!(table.find(540)?.is.visits, 2);
-//! assert_eq!(table.find(999), Err(Refusal::KeyAbsent));
+//! assert_eq!(table.rank(4), Err(Refusal::RankAbsent));
+//! # Ok::<(), Refusal>(())
+//! ```
+//!
+//! # A stamp a minute out
+//!
+//! A mistyped stamp is usually close to one that is there. Where find, amend and drop do not find it, the refusal names
+//! the nearest ones, for the program and in a sentence for a person.
+//!
+//! ```
+//! # use futtockram::{words_for, Refusal, State, Table};
+//! # let mut words = [0; words_for(15)];
+//! # let mut table = Table::start(&mut words)?;
+//! table.post(480, 1200, State::Poured)?;
+//! table.post(510, 900, State::Poured)?;
+//! let refusal = table.drop(511).unwrap_err();
+//! assert_eq!(refusal, Refusal::KeyAbsent { below: Some(510), above: None });
+//! assert_eq!(
+//!     refusal.sentence().to_string(),
+//!     "There is no record with this key; the nearest before it is 510, and there is none after it."
+//! );
 //! # Ok::<(), Refusal>(())
 //! ```
 //!

@@ -2,7 +2,7 @@
 
 use crate::answer::{Answer, Found, Record, Rule, Side, State, Tidied};
 use crate::layout::{header, NUMBERS};
-use crate::reading::{accepted, found, nothing, slot, sum, tidied};
+use crate::reading::{accepted, found, nothing, ranked, slot, sum, tidied};
 use crate::records::Records;
 use crate::{raw, refusal::Refusal};
 
@@ -46,7 +46,8 @@ impl<'a> Table<'a> {
         accepted(call!(ftk_check, self.words, as_ptr), nothing)
     }
 
-    /// The record of a key from 1 up.
+    /// The record of a key from 1 up. If it is not there, the refusal names the nearest keys that are, and so it does
+    /// for [`amend`](Table::amend) and [`drop`](Table::drop).
     pub fn find(&self, key: u32) -> Result<Answer<Found>, Refusal> {
         accepted(call!(ftk_find, self.words, as_ptr, key), found)
     }
@@ -68,7 +69,7 @@ impl<'a> Table<'a> {
 
     /// The slot of the record with the r-th smallest key, r from 1.
     pub fn rank(&self, r: u32) -> Result<Answer<u32>, Refusal> {
-        accepted(call!(ftk_rank, self.words, as_ptr, r), slot)
+        ranked(call!(ftk_rank, self.words, as_ptr, r))
     }
 
     /// The pieces of all records with a key of at most the given one.

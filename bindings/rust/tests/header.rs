@@ -110,9 +110,14 @@ fn in_capitals(name: &str) -> String {
     parts.collect::<String>().trim_start_matches('_').to_string()
 }
 
+/// The name of a refusal without what it carries: `KeyAbsent { .. }` is `KeyAbsent`.
+fn name(refusal: &Refusal) -> String {
+    format!("{refusal:?}").chars().take_while(|c| c.is_alphanumeric()).collect()
+}
+
 /// The refusals as Rust has them: name and code.
 fn rust_refusals() -> Vec<(String, u64)> {
-    Refusal::ALL.iter().map(|refusal| (format!("{refusal:?}"), refusal.code())).collect()
+    Refusal::ALL.iter().map(|refusal| (name(refusal), refusal.code())).collect()
 }
 
 #[test]
@@ -170,17 +175,31 @@ fn the_page_of_refusals_has_these_names_and_codes() {
     for (row, expected) in rows.iter().zip(&expected) {
         assert!(row.starts_with(expected), "{row} is not of {expected}");
     }
+    for own in [Refusal::RankAbsent, Refusal::Unknown(77), Refusal::Misread(78)] {
+        assert!(page.contains(&format!("`{}`", name(&own))), "the page does not speak of {own:?}");
+    }
 }
 
 #[test]
 fn a_code_is_a_refusal_and_no_code_is_beyond_reading() {
+    let read = |code| Refusal::from_numbers(&[code, 0, 0, 0, 0]);
     for refusal in Refusal::ALL {
-        assert_eq!(Refusal::from_code(refusal.code()), Some(refusal));
+        assert_eq!(read(refusal.code()), Some(refusal));
     }
-    assert_eq!(Refusal::from_code(0), None);
+    assert_eq!(read(0), None);
     for code in [11, 255, u64::MAX] {
-        assert_eq!(Refusal::from_code(code), Some(Refusal::Unknown(code)));
+        assert_eq!(read(code), Some(Refusal::Unknown(code)));
     }
+}
+
+#[test]
+fn only_the_code_of_an_absent_key_says_more_than_itself() {
+    for refusal in Refusal::ALL {
+        let read = Refusal::from_numbers(&[refusal.code(), 0, 435, 450, 0]).expect("a refusal");
+        let absent = Refusal::KeyAbsent { below: Some(435), above: Some(450) };
+        assert_eq!(read, if name(&refusal) == "KeyAbsent" { absent } else { refusal });
+    }
+    assert_eq!(Refusal::RankAbsent.code(), c_numbers()["KEY_ABSENT"]);
 }
 
 #[test]

@@ -1,6 +1,6 @@
-//! The walk of `records` against rank by rank, on tables of many shapes.
+//! The walk of `records` against rank by rank, and the nearest keys against the records, on tables of many shapes.
 
-use futtockram::{words_for, Record, Rule, Side, State, Table, MOST_SLOTS};
+use futtockram::{words_for, Record, Refusal, Rule, Side, State, Table, MOST_SLOTS};
 
 /// Numbers that look thrown, the same in every run (xorshift).
 struct Dice(u64);
@@ -17,7 +17,10 @@ impl Dice {
 /// The records by the library's own rank, one call for each.
 fn by_rank(table: &Table) -> Vec<Record> {
     let slots = (1..).map_while(|r| table.rank(r).ok());
-    slots.map(|slot| table.record(slot.is).expect("a ranked slot holds a record").is).collect()
+    let records: Vec<Record> =
+        slots.map(|slot| table.record(slot.is).expect("a ranked slot holds a record").is).collect();
+    assert_eq!(table.rank(records.len() as u32 + 1), Err(Refusal::RankAbsent));
+    records
 }
 
 /// The walk gives the records that rank gives, tells how many are to come, and the change number.
@@ -28,6 +31,24 @@ fn held_to_rank(table: &Table) -> usize {
     assert_eq!(records.change, table.check().expect("a sound table").change);
     assert_eq!(records.is.collect::<Vec<_>>(), expected);
     expected.len()
+}
+
+/// Each key up to the last that is not there is refused with the nearest ones among the records, by find, amend and
+/// drop alike, and the table stays what it was: so many keys.
+fn held_to_the_nearest(table: &mut Table, last: u32) -> usize {
+    let before = table.words().to_vec();
+    let there: Vec<u32> = table.records().expect("a sound table").is.map(|record| record.key).collect();
+    let absent: Vec<u32> = (1..=last).filter(|key| !there.contains(key)).collect();
+    for &key in &absent {
+        let below = there.iter().copied().filter(|&other| other < key).max();
+        let above = there.iter().copied().filter(|&other| other > key).min();
+        let refusal = Refusal::KeyAbsent { below, above };
+        assert_eq!(table.find(key).err(), Some(refusal), "find {key}");
+        assert_eq!(table.amend(key, 1, State::Poured).err(), Some(refusal), "amend {key}");
+        assert_eq!(table.drop(key).err(), Some(refusal), "drop {key}");
+    }
+    assert_eq!(table.words(), before);
+    absent.len()
 }
 
 /// A post, an amendment, a drop, a firing or a small tidy; most are accepted.
@@ -60,6 +81,23 @@ fn the_walk_gives_what_rank_gives_on_random_tables() {
         }
     }
     assert!(seen > 2_000, "only {seen} records were compared");
+}
+
+#[test]
+fn a_key_that_is_not_there_names_the_nearest_ones_on_random_tables() {
+    let mut dice = Dice(0xD1B5_4A32_D192_ED03);
+    let mut seen = 0;
+    for slots in [1, 2, 3, 7, 15, 40, 120] {
+        let mut words = vec![0; words_for(slots)];
+        let mut table = Table::start(&mut words).unwrap();
+        let keys = 2 * slots as u32;
+        assert_eq!(held_to_the_nearest(&mut table, keys), keys as usize);
+        for _ in 0..20 {
+            (0..slots).for_each(|_| change(&mut table, &mut dice, keys));
+            seen += held_to_the_nearest(&mut table, keys + 1);
+        }
+    }
+    assert!(seen > 2_000, "only {seen} keys were compared");
 }
 
 #[test]

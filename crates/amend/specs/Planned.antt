@@ -15,6 +15,7 @@ pub record Changeable (t : List ℕ) (k : ℕ) : Type 0 where
 
 abbrev pub CanAmend : List ℕ → Amending → Type 0
 CanAmend t (amending.Refuse why) = Unit {0}
+CanAmend t (amending.Absent passed) = Unit {0}
 CanAmend t (amending.Change k) = Changeable t k
 
 -- the plan is the defined one and can be carried out

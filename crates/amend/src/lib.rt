@@ -21,7 +21,7 @@ pub fn amending_at(t: &[u32], c: usize, w: Walk) -> Amending
 {
     match w {
         Walk::Damage => Amending::Refuse(Refusal::Damaged),
-        Walk::Miss { .. } => Amending::Refuse(Refusal::KeyAbsent),
+        Walk::Miss { passed, .. } => Amending::Absent(passed),
         Walk::Hit { slot, .. } => {
             if words::change(t) < Answer::LAST_CHANGE {
                 Amending::Change(slot)
@@ -60,6 +60,7 @@ pub fn amend(t: &mut [u32], key: u32, pieces: u32, state: u32) -> Answer
 {
     match plan_amend(t, key, pieces, state) {
         Amending::Refuse(why) => gate::refuse(why),
+        Amending::Absent(passed) => gate::absent(passed),
         Amending::Change(slot) => change_record(t, slot, pieces, state),
     }
 }

@@ -5,9 +5,11 @@ use mathlib.Core.List.{List}
 use Rattle.scope.specs.Calls.{Call}
 use Rattle.spelling.specs.Whole.{Whole}
 use Rattle.demands.specs.Fires.{fires}
+use Rattle.demands.specs.Ledgers.{ledgerOf}
 use Rattle.demands.specs.Demands.{Demand1, Demand2, Demand3}
+use Rattle.ledger.proofs.Neighbours.{neighbours-are}
 use Rattle.demands.proofs.Open.{worth-told, rest-exactly}
-use Rattle.demands.proofs.First.Listed.{code-listed, refused-zeros, refused-is}
+use Rattle.demands.proofs.First.Listed.{code-listed, refused-zeros, lacks-passed, refused-words}
 use Rattle.demands.proofs.Second.Entries.{ledger-sorted, ledger-has, ledger-count}
 use Rattle.demands.proofs.Second.Sequence.{calls-ledger}
 use Rattle.demands.proofs.Second.Exact.{fire-exact}
@@ -19,7 +21,12 @@ use Rattle.demands.proofs.Third.Tidied.{worth-most}
 
 pub demand-1 : (x : Call) (t : List ℕ) → Demand1 x t
 demand-1 x t =
-    record { numbered = code-listed x t; zeros = refused-zeros x t; unchanged = λ ne. refused-is x t ne .words }
+    record {
+      numbered = code-listed x t;
+      zeros = refused-zeros x t;
+      for-key = lacks-passed x t;
+      unchanged = refused-words x t;
+    }
 
 pub demand-2 : {t : List ℕ} {c : ℕ} → Whole t c → Demand2 t c
 demand-2 w =
@@ -28,6 +35,7 @@ demand-2 w =
       has = ledger-has w;
       count = ledger-count w;
       as-list = calls-ledger w;
+      nearest = λ key. neighbours-are key (ledgerOf _ _ .entries) (ledger-sorted w);
       fire = fire-exact w;
       order = stated-order w;
       tidy = tidy-is w;

@@ -10,7 +10,7 @@ use Rattle.scope.specs.Fit.{headerOk}
 use Rattle.scope.specs.Tree.{Tree, size}
 use Rattle.scope.specs.Sound.{soundTable, treeIn}
 use Rattle.scope.specs.Answers.{accepted, gate, answering, codeOf}
-use Rattle.scope.specs.Walk.{walkOf}
+use Rattle.scope.specs.Walk.{nonePassed, walkOf}
 use Rattle.scope.specs.Sums.{soundGate, checkAnswer}
 use Rattle.scope.specs.Worth.{worthAnswer}
 use Rattle.scope.specs.Tidy.{quiet}
@@ -25,7 +25,7 @@ use Rattle.spelling.proofs.Laws.{header-count}
 use Rattle.spelling.proofs.Exact.{sound-test}
 use Rattle.spelling.proofs.Spell.{tree-in}
 use Rattle.spelling.proofs.Opened.{opened}
-use Rattle.tree.specs.Seek.{seek, route, visits, sought}
+use Rattle.tree.specs.Seek.{seek, route, visits, passedTo, sought}
 use Rattle.tree.specs.Shape.{Quiet}
 use Rattle.tree.proofs.Rest.Height.{height-size}
 use Rattle.bridge.specs.Leads.{linkAlong}
@@ -113,11 +113,12 @@ module _ {t : List ℕ} {c : ℕ} (w : Whole t c) where
   tree-small = omega (arith, w .sound .count, header-count c t (w .sound .header))
 
   -- the walk of a key is the walk on the tree: it never meets damage
-  pub walk-tree : (key : ℕ) → walkOf t c key ≡ sought (seek key T) (linkAlong t (route key T) rootLink) (visits key T)
+  pub walk-tree : (key : ℕ) → walkOf t c key
+      ≡ sought (seek key T) (linkAlong t (route key T) rootLink) (passedTo key T nonePassed) (visits key T)
   unfolding walkOf linkAt
   walk-tree key =
-      walk-is t c key T c rootLink 0 (omega (arith, height-size T, tree-small)) (w .sound .reached)
-      ∙ ap (sought (seek key T) (linkAlong t (route key T) rootLink)) (omega arith)
+      walk-is t c key T c rootLink nonePassed 0 (omega (arith, height-size T, tree-small)) (w .sound .reached)
+      ∙ ap (sought (seek key T) (linkAlong t (route key T) rootLink) (passedTo key T nonePassed)) (omega arith)
 
 -- NO GUARD HOLDS on the words exactly if none holds in the tree that they spell
 pub rest-exactly : {t : List ℕ} {c : ℕ} → Whole t c → Exactly (quiet t c ≡ true) (Quiet (treeIn t c))

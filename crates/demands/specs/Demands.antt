@@ -2,7 +2,7 @@
 use Prim.Native.Nat.{ℕ, _+_, _*_, _≤_, _<_}
 use mathlib.Core.Path.{_≡_}
 use mathlib.Core.Bool.{true}
-use mathlib.Core.Option.{some}
+use mathlib.Core.Option.{none, some}
 use mathlib.Core.List.{List, _∷_}
 use lib.ListN.{length}
 use Rattle.scope.specs.Table.{word, countWord, changeWord, slotAt}
@@ -17,9 +17,11 @@ use Rattle.spelling.specs.Whole.{Whole}
 use Rattle.tree.specs.Shape.{Quiet, Balanced}
 use Rattle.ledger.specs.Entries.{lookup}
 use Rattle.ledger.specs.Sorted.{Sorted}
+use Rattle.ledger.specs.Ledger.{neighbours}
+use Rattle.ledger.specs.Neighbours.{Neighbours}
 use Rattle.ledger.specs.OfTree.{entryOf}
 use Rattle.demands.specs.Exactly.{Exactly}
-use Rattle.demands.specs.Listed.{codesListed, among, Refuses, onlyCode}
+use Rattle.demands.specs.Listed.{codesListed, among, Refuses, onlyCode, LacksKey, CarriesPassed}
 use Rattle.demands.specs.Fires.{worthIn, Trial, triedOn, Accepted, fires, acceptedIn}
 use Rattle.demands.specs.Firing.{FireIs}
 use Rattle.demands.specs.Ledgers.{ledgerOf}
@@ -32,8 +34,11 @@ use Rattle.demands.specs.Short.{mostVisits, Short}
 pub record Demand1 (x : Call) (t : List ℕ) : Type 0 where
   -- its code is 0, or one of those that document 01 lists for this call
   pub numbered : among (answerOf x t .code) (0 ∷ codesListed x) ≡ true
-  -- the other four numbers of a refusal are zero
-  pub zeros : Refuses x t → answerOf x t ≡ onlyCode (answerOf x t)
+  -- the other four numbers of a refusal are zero, except of code 5 for a key
+  pub zeros : Refuses x t → (LacksKey x t → ⊥) → answerOf x t ≡ onlyCode (answerOf x t)
+  -- which find, amend and drop give: the walk to that key has missed, value and more are the last keys that it passed below
+  -- and above, and the other two numbers are zero
+  pub for-key : (l : LacksKey x t) → CarriesPassed t (l .key) (answerOf x t)
   -- and it leaves every word as it was
   pub unchanged : Refuses x t → tableOf x t ≡ t
 
@@ -46,10 +51,14 @@ pub record Demand2 (t : List ℕ) (c : ℕ) : Type 0 where
       → lookup (slotAt t k .key) (ledgerOf t c .entries) ≡ some (entryOf (batchAt t k))
   -- and as many as word 1 counts
   pub count : length (ledgerOf t c .entries) ≡ word t countWord
-  -- any list of calls answers as on the ledger and leaves what it leaves of the ledger. Slots and how many were visited
-  -- are not compared; of the slot of a rank it is the record in it that is. Of worth, fire and tidy, which a ledger does not
-  -- know, only what they leave is compared here: what they answer is said below, and in `told` of demand 3
+  -- any list of calls answers as on the ledger and leaves what it leaves of the ledger. Of what is accepted, slots and how
+  -- many were visited are not compared; of the slot of a rank it is the record in it that is. Of worth, fire and tidy, which
+  -- a ledger does not know, only what they leave is compared here: what they answer is said below, and in `told` of demand 3
   pub as-list : (xs : List Call) → SameCalls xs t c
+  -- what the ledger answers beside 5 for an absent stamp, and by `as-list`, where a refusal is compared whole, find, amend and
+  -- drop too, are the nearest stamps: each is there, on its side, or 0 where none is, and no record lies between them
+  pub nearest : (key : ℕ) → lookup key (ledgerOf t c .entries) ≡ none
+      → Neighbours key (ledgerOf t c .entries) (neighbours key (ledgerOf t c .entries))
   -- fire takes a rule just where its guard holds and every new height fits a register; then the tree changes as the rule
   -- says, and the records, their slots and the change number stay
   pub fire : (x : Trial) → FireIs t c x (triedOn t x)
@@ -79,5 +88,5 @@ pub record Demand3 (t : List ℕ) (c : ℕ) : Type 0 where
   pub level : quiet t c ≡ true → Balanced (treeIn t c)
   -- and the walk to any key, hit or miss, visits 16 records or fewer
   pub short : quiet t c ≡ true → (key : ℕ) → Short mostVisits (walkOf t c key)
-  -- as find says too
-  pub find : quiet t c ≡ true → (key : ℕ) → findAnswer t key .more ≤ mostVisits
+  -- as find says too of a key that is there
+  pub find : quiet t c ≡ true → (key : ℕ) → findAnswer t key .code ≡ 0 → findAnswer t key .more ≤ mostVisits

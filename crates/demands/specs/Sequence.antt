@@ -9,8 +9,8 @@ use Rattle.spelling.specs.Whole.{Whole}
 use Rattle.ledger.specs.Sequence.{Told, plain, ledgerAnswer, ledgerAfter, ledgerAnswers, ledgerAfterAll}
 use Rattle.demands.specs.Ledgers.{ledgerOf, noVisits, noSlot, standing}
 
--- what a ledger can know of a call's answer on a table: all but slots and visits, of a rank also the record that stands
--- in the answered slot, and nothing of worth, fire and tidy
+-- what a ledger can know of a call's answer on a table: all of a refusal, and of an accepted one all but slots and visits; of
+-- a rank also the record that stands in the answered slot, and nothing of worth, fire and tidy
 unfoldable pub apart : Call → List ℕ → Answer → Option Told
 apart Start t a = some (plain a)
 apart Check t a = some (plain a)

@@ -6,6 +6,7 @@ use mathlib.Core.List.{List}
 use Rattle.scope.specs.Walk.{walkOf}
 use Rattle.scope.specs.Tidy.{quiet}
 use Rattle.scope.specs.declared.side.Link.{Link}
+use Rattle.scope.specs.declared.outcome.Passed.{Passed}
 use Rattle.scope.specs.declared.outcome.Walk.{Walk}
 use Rattle.scope.specs.declared.outcome.Walk.the-variants.{Hit, Miss}
 use Rattle.spelling.specs.Whole.{Whole}
@@ -17,7 +18,7 @@ mostVisits = 16
 -- hit or miss, and no damage
 pub data Short (most : ℕ) : Walk → Type 0 where
   hit : {slot seen : ℕ} {link : Link} → seen ≤ most → Short most (Hit slot link seen)
-  miss : {seen : ℕ} {link : Link} → seen ≤ most → Short most (Miss link seen)
+  miss : {seen : ℕ} {link : Link} {passed : Passed} → seen ≤ most → Short most (Miss passed link seen)
 
 -- a sound table where no guard holds, and a walk on it that visits so many records
 pub record Visited (many : ℕ) : Type 0 where

@@ -79,6 +79,7 @@ pub fn drop(t: &mut [u32], key: u32) -> Answer
 {
     match plan_drop(t, key) {
         Dropping::Refuse(why) => gate::refuse(why),
+        Dropping::Absent(passed) => gate::absent(passed),
         Dropping::Lift { slot, link, son } => lift(t, slot, link, son),
         Dropping::Replace { slot, least, link } => replace(t, slot, least, link),
     }

@@ -13,6 +13,7 @@ use Rattle.scope.specs.declared.slot.Slot.{Slot}
 use Rattle.scope.specs.declared.side.Link.{Link}
 use Rattle.scope.specs.declared.outcome.Step.{Step}
 use Rattle.scope.specs.declared.outcome.Step.the-variants.{Here, Down, Broken}
+use Rattle.scope.specs.declared.outcome.Passed.{Passed}
 use Rattle.scope.specs.declared.outcome.Walk.{Walk}
 use Rattle.scope.specs.declared.outcome.Walk.the-variants.{Hit}
 use Rattle.drop_plan.specs.Planned.{HitFits}
@@ -32,14 +33,14 @@ on-step t c key k (Down side next) link seen on e further = further side next
 on-step t c key k Broken link seen on e further = tt
 
 module _ (t : List ℕ) (c key : ℕ) where
-  from-fit : (n k : ℕ) (link : Link) (seen : ℕ) → HitFits t c (walkFrom t c key n k link seen)
+  from-fit : (n k : ℕ) (link : Link) (passed : Passed) (seen : ℕ) → HitFits t c (walkFrom t c key n k link passed seen)
   unfolding walkFrom
-  from-fit zero k link seen = by-bool (eqb k 0) (λ p. simp p tt) (λ p. simp p tt)
-  from-fit (suc n) k link seen =
+  from-fit zero k link passed seen = by-bool (eqb k 0) (λ p. simp p tt) (λ p. simp p tt)
+  from-fit (suc n) k link passed seen =
       by-bool (eqb k 0) (λ p. simp p tt)
       (λ p. simp p (on-step t c key k (stepOf c key (slotAt t k)) link (seen + 1) _ refl
-      (λ side next. from-fit n next (record { holder = k; side = side }) (seen + 1))))
+      (λ side next. from-fit n next (record { holder = k; side = side }) _ (seen + 1))))
 
   pub hit-fits : (w : Walk) → w ≡ walkOf t c key → HitFits t c w
   unfolding walkOf
-  hit-fits w e = rw e (from-fit _ _ _ _)
+  hit-fits w e = rw e (from-fit _ _ _ _ _)

@@ -7,13 +7,14 @@ use Rattle.scope.specs.declared.slot.Slot.{Slot}
 use Rattle.scope.specs.declared.side.Side.{Side}
 use Rattle.scope.specs.declared.side.Link.{Link}
 use Rattle.scope.specs.declared.outcome.Dropping.{Dropping}
-use Rattle.scope.specs.declared.outcome.Dropping.the-variants.{Refuse, Lift, Replace}
+use Rattle.scope.specs.declared.outcome.Dropping.the-variants.{Refuse, Absent, Lift, Replace}
 use Rattle.spelling.proofs.Laws.{fit-son}
 use Rattle.drop_plan.specs.Planned.{FoundAt, Lifting, DropAimed, MayDrop, CanDrop}
 
 -- a plan that is aimed at the table can be carried out once a record is counted and a change number is left
 pub can-drop : (t : List ℕ) (plan : Dropping) → DropAimed t plan → MayDrop t → CanDrop t plan
 can-drop t (Refuse why) a m = tt
+can-drop t (Absent passed) a m = tt
 can-drop t (Lift slot link son) a m = record { aimed = a; may = m }
 can-drop t (Replace slot least link) a m = record { aimed = a; may = m }
 

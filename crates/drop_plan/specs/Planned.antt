@@ -13,14 +13,14 @@ use Rattle.scope.specs.declared.outcome.Walk.the-variants as walk
 use Rattle.scope.specs.declared.outcome.Leftmost.{Leftmost}
 use Rattle.scope.specs.declared.outcome.Leftmost.the-variants as leftmost
 use Rattle.scope.specs.declared.outcome.Dropping.{Dropping}
-use Rattle.scope.specs.declared.outcome.Dropping.the-variants.{Refuse, Lift, Replace}
+use Rattle.scope.specs.declared.outcome.Dropping.the-variants.{Refuse, Absent, Lift, Replace}
 use Rattle.spelling.specs.Ready.{Sized, Ready}
 use Rattle.gate.specs.AtSlot.{AtSlot}
 
 -- the slot of a hit is fit
 abbrev pub HitFits : List ℕ → ℕ → Walk → Type 0
 HitFits t c (walk.Hit slot link seen) = fitSlot c (slotAt t slot) ≡ true
-HitFits t c (walk.Miss link seen) = Unit {0}
+HitFits t c (walk.Miss passed link seen) = Unit {0}
 HitFits t c walk.Damage = Unit {0}
 
 -- a fit slot of the table, found by its key at a link, after so many visits
@@ -64,6 +64,7 @@ pub record Replacing (t : List ℕ) (slot least : ℕ) (link : Link) : Type 0 wh
 
 abbrev pub DropAimed : List ℕ → Dropping → Type 0
 DropAimed t (Refuse why) = Unit {0}
+DropAimed t (Absent passed) = Unit {0}
 DropAimed t (Lift slot link son) = Lifting t slot link son
 DropAimed t (Replace slot least link) = Replacing t slot least link
 
@@ -82,6 +83,7 @@ pub record Replaceable (t : List ℕ) (slot least : ℕ) (link : Link) : Type 0 
 
 abbrev pub CanDrop : List ℕ → Dropping → Type 0
 CanDrop t (Refuse why) = Unit {0}
+CanDrop t (Absent passed) = Unit {0}
 CanDrop t (Lift slot link son) = Liftable t slot link son
 CanDrop t (Replace slot least link) = Replaceable t slot least link
 

@@ -124,7 +124,7 @@ pub fn dropping_at(t: &[u32], c: usize, w: Walk) -> Dropping
 {
     match w {
         Walk::Damage => Dropping::Refuse(Refusal::Damaged),
-        Walk::Miss { .. } => Dropping::Refuse(Refusal::KeyAbsent),
+        Walk::Miss { passed, .. } => Dropping::Absent(passed),
         Walk::Hit { slot, link, seen } => drop_at(t, c, slot, link, seen),
     }
 }

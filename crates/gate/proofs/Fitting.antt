@@ -1,17 +1,19 @@
 -- The tests that `gate` takes together say what the tests one by one say. Assumes nothing.
-use Prim.Native.Nat.{ℕ, _+_, _*_, _-_, _^_, _≤_, _<_}
+use Prim.Native.Nat.{ℕ, _+_, _*_, _≤_}
 use mathlib.Core.Path.{_≡_, refl, sym, _∙_}
 use mathlib.Core.Bool.{Bool, true, false, not, _&&_, _||_}
+use mathlib.Core.List.{List}
 use native.Mathlib.Omega.{arith}
 use native.Mathlib.Decide.{ℕ-discrete}
 use lib.Dec.{leb, eqb}
 use lib.Bits.{bitOr, or-lt, or-add-and, and-le-l, and-le-r}
 use borrow.Author.Tests.{leb-true, le-leb, eqb-true, eq-eqb, ne-eqb}
 use Rattle.scope.specs.Numbers.{mostHeight, mostSlots}
-use Rattle.scope.specs.Fit.{stateOk, piecesOk, linkOk, tailOk, tailFits, fitSlot}
+use Rattle.scope.specs.Table.{word, rootWord, countWord, zeroWord}
+use Rattle.scope.specs.Fit.{stateOk, piecesOk, linkOk, tailOk, tailFits, fitSlot, headerOk}
 use Rattle.scope.specs.declared.slot.Slot.{Slot}
 use Rattle.scope.proofs.Bools.{and-l, and-r, both, never}
-use Rattle.gate.specs.Parts.{burdenOf, besideOk, registersOk, contentsOk, linksOk}
+use Rattle.gate.specs.Parts.{burdenOf, spareOf, besideOf, boundsOk, endsOk, visitOk}
 
 -- two tests that pass alike
 same : (a b : Bool) → (a ≡ true → b ≡ true) → (b ≡ true → a ≡ true) → a ≡ b
@@ -41,8 +43,8 @@ burden-le link =
     ]
 
 -- a register with its burden is within the limit
-beside : (link h : ℕ) → leb (h + burdenOf link) mostHeight ≡ besideOk link h
-beside link h =
+burdened : (link h : ℕ) → leb (h + burdenOf link) mostHeight ≡ (leb h mostHeight && (not (eqb link 0) || eqb h 0))
+burdened link h =
     elim (ℕ-discrete link 0) [
       | yes z ↦ rw (eq-eqb link 0 z)
           (same _ _
@@ -55,70 +57,107 @@ beside link h =
           (λ p. let q = leb-true h mostHeight (and-l (leb h mostHeight) _ p) in le-leb (h + 0) mostHeight (omega arith)))
     ]
 
--- two numbers are within so many ones exactly if their bits together are
-or-within : (ones most : ℕ) → most + 1 ≡ 2 ^ ones → (a b : ℕ) → leb (bitOr a b) most ≡ (leb a most && leb b most)
-or-within ones most e a b =
+-- two numbers are within the limit, which is sixteen ones, exactly if their bits together are
+or-within : (a b : ℕ) → leb (bitOr a b) mostHeight ≡ (leb a mostHeight && leb b mostHeight)
+or-within a b =
     same _ _
-    (λ p. let q = leb-true (bitOr a b) most p in
-    both (le-leb a most (omega (arith, or-add-and a b, and-le-r a b)))
-    (le-leb b most (omega (arith, or-add-and a b, and-le-l a b))))
-    (λ p. let x = leb-true a most (and-l (leb a most) (leb b most) p) in
-    let y = leb-true b most (and-r (leb a most) (leb b most) p) in
-    let z = or-lt ones a b (rw (sym e) (omega (arith, x))) (rw (sym e) (omega (arith, y))) in
-    le-leb (bitOr a b) most (omega (arith, rw (sym e) at z)))
+    (λ p. let q = leb-true (bitOr a b) mostHeight p in
+    both (le-leb a mostHeight (omega (arith, or-add-and a b, and-le-r a b)))
+    (le-leb b mostHeight (omega (arith, or-add-and a b, and-le-l a b))))
+    (λ p. let x = leb-true a mostHeight (and-l (leb a mostHeight) (leb b mostHeight) p) in
+    let y = leb-true b mostHeight (and-r (leb a mostHeight) (leb b mostHeight) p) in
+    let z = or-lt 16 a b (omega (arith, x)) (omega (arith, y)) in
+    le-leb (bitOr a b) mostHeight (omega (arith, z)))
 
-pub registers-together : (s : Slot)
-    → leb (bitOr (s .lefth + burdenOf (s .left)) (s .righth + burdenOf (s .right))) mostHeight ≡ registersOk s
-registers-together s =
-    or-within 16 mostHeight refl (s .lefth + burdenOf (s .left)) (s .righth + burdenOf (s .right))
-    ∙ rw (beside (s .left) (s .lefth), beside (s .right) (s .righth)) refl
-
--- a link is within the slots exactly if, with those that the table lacks, it is within the most
-lacks : (c link : ℕ) → c ≤ mostSlots → leb (link + (mostSlots - c)) mostSlots ≡ leb link c
-lacks c link l =
+-- a number is at most c exactly if, with what is spare, it is within the limit
+spare-within : (c k : ℕ) → c ≤ mostSlots → leb (k + spareOf c) mostHeight ≡ leb k c
+spare-within c k l =
     same _ _
-    (λ p. let q = leb-true (link + (mostSlots - c)) mostSlots p in le-leb link c (omega (arith, l, q)))
-    (λ p. let q = leb-true link c p in le-leb (link + (mostSlots - c)) mostSlots (omega (arith, l, q)))
+    (λ p. let q = leb-true (k + spareOf c) mostHeight p in le-leb k c (omega (arith, l, q)))
+    (λ p. let q = leb-true k c p in le-leb (k + spareOf c) mostHeight (omega (arith, l, q)))
 
-pub links-together : (c : ℕ) (s : Slot) → c ≤ mostSlots
-    → leb (bitOr (s .left + (mostSlots - c)) (s .right + (mostSlots - c))) mostSlots ≡ linksOk c s
-links-together c s l =
-    or-within 12 mostSlots refl (s .left + (mostSlots - c)) (s .right + (mostSlots - c))
-    ∙ rw (lacks c (s .left) l, lacks c (s .right) l) refl
+-- a test after two others, before them
+before-both : (l h i : Bool) → ((h && i) && l) ≡ (l && h && i)
+before-both true true true = refl
+before-both true true false = refl
+before-both true false i = refl
+before-both false true true = refl
+before-both false true false = refl
+before-both false false i = refl
+
+-- a link and the register beside it
+beside-within : (c link h : ℕ) → c ≤ mostSlots → leb (besideOf (spareOf c) link h) mostHeight ≡ linkOk c link h
+unfolding linkOk
+beside-within c link h l =
+    or-within (h + burdenOf link) (link + spareOf c)
+    ∙ rw (burdened link h, spare-within c link l)
+    (before-both (leb link c) (leb h mostHeight) (not (eqb link 0) || eqb h 0))
+
+pub bounds-together : (c n : ℕ) (s : Slot) → c ≤ mostSlots
+    → leb (bitOr (besideOf (spareOf c) (s .left) (s .lefth)) (bitOr (besideOf (spareOf c) (s .right) (s .righth)) (n + spareOf c)))
+    mostHeight
+    ≡ boundsOk c n s
+bounds-together c n s l =
+    or-within (besideOf (spareOf c) (s .left) (s .lefth)) (bitOr (besideOf (spareOf c) (s .right) (s .righth)) (n + spareOf c))
+    ∙ rw (
+      or-within (besideOf (spareOf c) (s .right) (s .righth)) (n + spareOf c),
+      beside-within c (s .left) (s .lefth) l,
+      beside-within c (s .right) (s .righth) l,
+      spare-within c n l,
+    ) refl
 
 -- the same tests in another order
-regroup : (e z k p l r h i j m : Bool)
-    → (((h && i) && (j && m)) && (p && ((e && z) && k)) && (l && r)) ≡ (e && k && p && (l && h && i) && (r && j && m) && z)
-regroup e z k p l r h i j m =
+regroup : (e z k p l r v : Bool) → (k && (p && ((l && (r && v)) && (e && z)))) ≡ (v && (e && k && p && l && r && z))
+regroup e z k p l r v =
     same _ _
     (λ x.
-    let y = and-l (((h && i) && (j && m)) && (p && ((e && z) && k))) (l && r) x in
-    let lr = and-r (((h && i) && (j && m)) && (p && ((e && z) && k))) (l && r) x in
-    let hijm = and-l ((h && i) && (j && m)) (p && ((e && z) && k)) y in
-    let pezk = and-r ((h && i) && (j && m)) (p && ((e && z) && k)) y in
-    let ezk = and-r p ((e && z) && k) pezk in
-    let ez = and-l (e && z) k ezk in
-    let hi = and-l (h && i) (j && m) hijm in
-    let jm = and-r (h && i) (j && m) hijm in
-    both (both (both (both (both (and-l e z ez) (and-r (e && z) k ezk)) (and-l p ((e && z) && k) pezk))
-    (both (both (and-l l r lr) (and-l h i hi)) (and-r h i hi))) (both (both (and-r l r lr) (and-l j m jm)) (and-r j m jm))) (and-r e z ez))
+    let y = and-r k (p && ((l && (r && v)) && (e && z))) x in
+    let w = and-r p ((l && (r && v)) && (e && z)) y in
+    let lrv = and-l (l && (r && v)) (e && z) w in
+    let ez = and-r (l && (r && v)) (e && z) w in
+    let rv = and-r l (r && v) lrv in
+    both (and-r r v rv)
+    (both (both (both (both (both (and-l e z ez) (and-l k (p && ((l && (r && v)) && (e && z))) x))
+    (and-l p ((l && (r && v)) && (e && z)) y)) (and-l l (r && v) lrv)) (and-l r v rv)) (and-r e z ez)))
     (λ x.
-    let y = and-l (e && k && p && (l && h && i) && (r && j && m)) z x in
-    let rjm = and-r (e && k && p && (l && h && i)) (r && j && m) y in
-    let w = and-l (e && k && p && (l && h && i)) (r && j && m) y in
-    let lhi = and-r (e && k && p) (l && h && i) w in
-    let ekp = and-l (e && k && p) (l && h && i) w in
+    let y = and-r v (e && k && p && l && r && z) x in
+    let ekplr = and-l (e && k && p && l && r) z y in
+    let ekpl = and-l (e && k && p && l) r ekplr in
+    let ekp = and-l (e && k && p) l ekpl in
     let ek = and-l (e && k) p ekp in
-    let lh = and-l (l && h) i lhi in
-    let rj = and-l (r && j) m rjm in
-    both (both (both (both (and-r l h lh) (and-r (l && h) i lhi)) (both (and-r r j rj) (and-r (r && j) m rjm)))
-    (both (and-r (e && k) p ekp) (both (both (and-l e k ek) (and-r (e && k && p && (l && h && i) && (r && j && m)) z x)) (and-r e k ek))))
-    (both (and-l l h lh) (and-l r j rj)))
+    both (and-r e k ek) (both (and-r (e && k) p ekp)
+    (both (both (and-r (e && k && p) l ekpl) (both (and-r (e && k && p && l) r ekplr) (and-l v (e && k && p && l && r && z) x)))
+    (both (and-l e k ek) (and-r (e && k && p && l && r) z y)))))
 
--- the whole test in the order of the code
-pub fit-together : (c : ℕ) (s : Slot) → (contentsOk s && linksOk c s) ≡ fitSlot c s
-unfolding fitSlot linkOk
-fit-together c s =
-    regroup (stateOk (s .state)) (tailFits s) (not (eqb (s .key) 0)) (piecesOk (s .pieces)) (leb (s .left) c)
-    (leb (s .right) c) (leb (s .lefth) mostHeight) (not (eqb (s .left) 0) || eqb (s .lefth) 0) (leb (s .righth) mostHeight)
-    (not (eqb (s .right) 0) || eqb (s .righth) 0)
+-- the whole test of a visit in the order of the code
+pub visit-together : (c n : ℕ) (s : Slot)
+    → (not (eqb (s .key) 0) && (piecesOk (s .pieces) && (boundsOk c n s && endsOk s))) ≡ visitOk c n s
+unfolding fitSlot
+visit-together c n s =
+    regroup (stateOk (s .state)) (tailFits s) (not (eqb (s .key) 0)) (piecesOk (s .pieces)) (linkOk c (s .left) (s .lefth))
+    (linkOk c (s .right) (s .righth)) (leb n c)
+
+-- a word so far up is within the limit only if it is 0
+zero-within : (z : ℕ) → leb (z * 65536) mostHeight ≡ eqb z 0
+zero-within z =
+    same _ _
+    (λ p. let q = leb-true (z * 65536) mostHeight p in eq-eqb z 0 (omega (arith, q)))
+    (λ p. let q = eqb-true z 0 p in le-leb (z * 65536) mostHeight (omega (arith, q)))
+
+and-assoc : (a b d : Bool) → (a && (b && d)) ≡ (a && b && d)
+and-assoc true b d = refl
+and-assoc false b d = refl
+
+pub header-together : (c : ℕ) (t : List ℕ) → c ≤ mostSlots
+    → leb (bitOr (word t rootWord + spareOf c) (bitOr (word t countWord + spareOf c) (word t zeroWord * 65536))) mostHeight
+    ≡ headerOk c t
+unfolding headerOk
+header-together c t l =
+    or-within (word t rootWord + spareOf c) (bitOr (word t countWord + spareOf c) (word t zeroWord * 65536))
+    ∙ rw (
+      or-within (word t countWord + spareOf c) (word t zeroWord * 65536),
+      spare-within c (word t rootWord) l,
+      spare-within c (word t countWord) l,
+      zero-within (word t zeroWord),
+    )
+    (and-assoc (leb (word t rootWord) c) (leb (word t countWord) c) (eqb (word t zeroWord) 0))

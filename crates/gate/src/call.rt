@@ -3,6 +3,7 @@ use crate::tests::header_ok;
 use scope::Answer;
 use scope::Gate;
 use scope::Head;
+use scope::Passed;
 use scope::Refusal;
 use scope::Slot;
 use scope::Slots;
@@ -10,7 +11,7 @@ use scope::SlotsIs;
 ghost use mathlib.Core.Path.{_≡_};
 ghost use Rattle.scope.specs.Table.{slotsIn, word, changeWord};
 ghost use Rattle.scope.specs.Fit.{headerOk};
-ghost use Rattle.scope.specs.Answers.{codeOf, refusal, accepted, gate};
+ghost use Rattle.scope.specs.Answers.{codeOf, refusal, absence, accepted, gate};
 ghost use Rattle.spelling.specs.Ready.{Headed};
 
 // The slots of a table of so many words.
@@ -71,6 +72,19 @@ pub fn refuse(why: Refusal) -> Answer
         change: 0,
         value: 0,
         more: 0,
+        kind: 0,
+    }
+}
+
+// The answer to a key that is absent: with the last key passed on each side of the walk to it.
+pub fn absent(passed: Passed) -> Answer
+    ensures { λ r. ⌜ r ≡ absence passed ⌝ }
+{
+    Answer {
+        code: code(Refusal::KeyAbsent),
+        change: 0,
+        value: words::long(passed.below),
+        more: words::long(passed.above),
         kind: 0,
     }
 }

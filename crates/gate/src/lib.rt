@@ -3,6 +3,7 @@ pub mod call;
 pub mod ending;
 pub mod tests;
 
+pub use call::absent;
 pub use call::accept;
 pub use call::capacity;
 pub use call::enter;
@@ -15,3 +16,4 @@ pub use tests::header_ok;
 pub use tests::pieces_ok;
 pub use tests::record_ok;
 pub use tests::state_ok;
+pub use tests::visit_ok;

@@ -1,16 +1,12 @@
-// The tests of a slot and of the header.
+// The tests of a slot, of a visit and of the header.
 use scope::Height;
 use scope::Slot;
-use scope::Slots;
 use scope::State;
-use words::records;
-use words::root;
-use words::zero;
 ghost use mathlib.Core.Path.{_≡_};
-ghost use Prim.Native.Nat.{_≤_};
-ghost use Rattle.scope.specs.Numbers.{mostSlots};
+ghost use Prim.Native.Nat.{suc, _≤_};
+ghost use Rattle.scope.specs.Numbers.{mostSlots, mostHeight};
 ghost use Rattle.scope.specs.Fit.{stateOk, piecesOk, fitSlot, blankSlot, headerOk, recordOk};
-ghost use Rattle.gate.specs.Parts.{burdenOf, registersOk, endsOk, contentsOk, linksOk};
+ghost use Rattle.gate.specs.Parts.{burdenOf, spareOf, besideOf, boundsOk, endsOk, visitOk};
 ghost use Rattle.spelling.specs.Ready.{Headed};
 
 pub fn state_ok(s: u32) -> bool
@@ -39,13 +35,32 @@ pub fn burden(link: u32) -> u64
     if link == 0 { Height::MOST as u64 } else { 0 }
 }
 
-// Both registers at once: their sums are within the limit, which is all ones, exactly if their bits together are.
-pub fn registers_ok(s: Slot) -> bool
-    ensures { λ r. ⌜ r ≡ registersOk s ⌝ }
+// What is added to the number of a slot, or of a visit, before it is held to the same limit: past the table's slots any
+// is then too high.
+pub fn spare(c: usize) -> u64
+    requires { ⌜ c ≤ mostSlots ⌝ }
+    ensures { λ r. ⌜ r ≡ spareOf c ⌝ }
 {
-    let left = s.lefth as u64 + burden(s.left);
-    let right = s.righth as u64 + burden(s.right);
-    (left | right) <= Height::MOST as u64
+    Height::MOST as u64 - c as u64
+}
+
+// A link and the register beside it. The limit is all ones, so numbers are within it exactly if their bits together are.
+pub fn beside(extra: u64, link: u32, register: u32) -> u64
+    requires { ⌜ extra ≤ mostHeight ⌝ }
+    ensures { λ r. ⌜ r ≡ besideOf extra link register ⌝ }
+{
+    (register as u64 + burden(link)) | (link as u64 + extra)
+}
+
+// Both links with their registers, and the number of a visit, at once.
+pub fn bounds_ok(c: usize, n: usize, s: Slot) -> bool
+    requires { ⌜ (c ≤ mostSlots) × (n ≤ suc c) ⌝ }
+    ensures { λ r. ⌜ r ≡ boundsOk c n s ⌝ }
+{
+    let extra = spare(c);
+    let left = beside(extra, s.left, s.lefth);
+    let right = beside(extra, s.right, s.righth);
+    (left | (right | (n as u64 + extra))) <= Height::MOST as u64
 }
 
 // The first and the last word of a slot at once: 1 or 2, and 0.
@@ -56,30 +71,21 @@ pub fn ends_ok(s: Slot) -> bool
     (ends == State::POURED as u64) | (ends == State::REMELT as u64)
 }
 
-// What a slot tells by itself: its registers, pieces, ends and key.
-pub fn contents_ok(s: Slot) -> bool
-    ensures { λ r. ⌜ r ≡ contentsOk s ⌝ }
+// The n-th visit of a walk through a table of c slots: n is at most c, and the slot is fit. The tests are made one after
+// the other, so that the processor guesses that they pass.
+pub fn visit_ok(c: usize, n: usize, s: Slot) -> bool
+    requires { ⌜ (c ≤ mostSlots) × (n ≤ suc c) ⌝ }
+    ensures { λ r. ⌜ r ≡ visitOk c n s ⌝ }
 {
-    registers_ok(s) && (pieces_ok(s.pieces) && (ends_ok(s) && s.key != 0))
+    s.key != 0 && (pieces_ok(s.pieces) && (bounds_ok(c, n, s) && ends_ok(s)))
 }
 
-// Both links at once, into the table or nowhere. A link is one of c slots exactly if, with the slots that the table lacks,
-// it is one of the most; and two sums are within the most, which is all ones, exactly if their bits together are.
-pub fn links_ok(c: usize, s: Slot) -> bool
-    requires { ⌜ c ≤ mostSlots ⌝ }
-    ensures { λ r. ⌜ r ≡ linksOk c s ⌝ }
-{
-    let lacking = Slots::MOST - c;
-    let left = s.left as usize + lacking;
-    let right = s.right as usize + lacking;
-    (left | right) <= Slots::MOST
-}
-
+// A visit with the number 0 is never one too many.
 pub fn fit(c: usize, s: Slot) -> bool
     requires { ⌜ c ≤ mostSlots ⌝ }
     ensures { λ r. ⌜ r ≡ fitSlot c s ⌝ }
 {
-    contents_ok(s) && links_ok(c, s)
+    visit_ok(c, 0, s)
 }
 
 // Eight zeros.
@@ -96,9 +102,14 @@ pub fn blank(s: Slot) -> bool
         & (s.last == 0)
 }
 
+// The root, the count and the zero of the header at once.
 pub fn header_ok(c: usize, t: &[u32]) -> bool
-    requires { ⌜ Headed (now t) ⌝ }
+    requires { ⌜ Headed (now t) × (c ≤ mostSlots) ⌝ }
     ensures { λ r. ⌜ r ≡ headerOk c (now (t .entry)) ⌝ }
 {
-    (root(t) <= c) & (records(t) <= c) & (zero(t) == 0)
+    let extra = spare(c);
+    let root = words::root_word(t) as u64 + extra;
+    let count = words::records_word(t) as u64 + extra;
+    let zero = words::zero(t) as u64 * (Height::MOST as u64 + 1);
+    (root | (count | zero)) <= Height::MOST as u64
 }

@@ -2,3 +2,5 @@
 pub mod Lists
 pub mod Entries
 pub mod Sorted
+pub mod Passing
+pub mod Neighbours

@@ -1,4 +1,4 @@
--- Two lists of records one after the other. Assumes nothing.
+-- Lists of records: two one after the other, and what holds of every stamp. Assumes nothing.
 use Prim.Native.Nat.{ℕ, _+_}
 use mathlib.Core.Path.{_≡_, refl, sym, _∙_, ap}
 use mathlib.Core.Bool.{true, false, cond}
@@ -77,6 +77,16 @@ module _ (key : ℕ) where
 pub each-join : (P : ℕ → Type 0) (xs ys : List Entry) → EachStamp P xs → EachStamp P ys → EachStamp P (xs ++ ys)
 each-join P [] ys h k = k
 each-join P (x ∷ xs) ys h k = (h .0, each-join P xs ys (h .1) k)
+
+-- what follows of every stamp, and of what holds twice
+pub each-map : (P Q : ℕ → Type 0) (es : List Entry) → ((stamp : ℕ) → P stamp → Q stamp) → EachStamp P es → EachStamp Q es
+each-map P Q [] f h = tt
+each-map P Q (e ∷ es) f h = (f (e .key) (h .0), each-map P Q es f (h .1))
+
+pub each-both : (P Q : ℕ → Type 0) (es : List Entry) → EachStamp P es → EachStamp Q es
+    → EachStamp (λ stamp. P stamp × Q stamp) es
+each-both P Q [] h k = tt
+each-both P Q (e ∷ es) h k = ((h .0, k .0), each-both P Q es (h .1) (k .1))
 
 -- no stamp of a list is larger
 abbrev pub NoneAfter : ℕ → List Entry → Type 0

@@ -18,23 +18,22 @@ use Rattle.ledger.specs.Sorted.{EachStamp, AllAfter, Sorted}
 use Rattle.ledger.specs.OfTree.{entryOf, entriesOf}
 use Rattle.ledger.specs.Ledger.{Ledger, Entered, entry, entered, onEntry, postIn, amendIn, dropIn}
 use Rattle.ledger.specs.Sequence.{ledgerAfter, ledgerAfterAll}
-use Rattle.ledger.proofs.Lists.{not-here, each-join}
+use Rattle.ledger.proofs.Lists.{not-here, each-join, each-map}
 use Rattle.ledger.proofs.Entries.{entries-node, each-key}
 
 -- what comes after a stamp comes after every smaller one
 all-less : (k m : ℕ) (xs : List Entry) → k < m → AllAfter m xs → AllAfter k xs
-all-less k m [] l h = tt
-all-less k m (x ∷ xs) l h = (omega (arith, h .0), all-less k m xs l (h .1))
+all-less k m xs l h = each-map (λ stamp. m < stamp) (λ stamp. k < stamp) xs (λ stamp i. omega arith) h
 
 -- the keys of a tree between two stamps
-above-all : (k : ℕ) (T : Tree) → Above k T → AllAfter k (entriesOf T)
+pub above-all : (k : ℕ) (T : Tree) → Above k T → AllAfter k (entriesOf T)
 unfolding Above
 above-all k = each-key (λ stamp. k < stamp) (Above k) (λ d a b l r h. h)
 
-abbrev AllBefore : ℕ → List Entry → Type 0
+abbrev pub AllBefore : ℕ → List Entry → Type 0
 AllBefore key = EachStamp (λ stamp. stamp < key)
 
-below-all : (k : ℕ) (T : Tree) → Below k T → AllBefore k (entriesOf T)
+pub below-all : (k : ℕ) (T : Tree) → Below k T → AllBefore k (entriesOf T)
 unfolding Below
 below-all k = each-key (λ stamp. stamp < k) (Below k) (λ d a b l r h. h)
 

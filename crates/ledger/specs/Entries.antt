@@ -1,5 +1,5 @@
 -- Records in a list, and what can be asked of them and done to them by stamp. Assumes nothing: these are definitions.
-use Prim.Native.Nat.{ℕ, _+_, _-_}
+use Prim.Native.Nat.{ℕ, _+_, _-_, max}
 use mathlib.Core.Bool.{cond}
 use mathlib.Core.Option.{Option, none, some}
 use mathlib.Core.List.{List, [], _∷_}
@@ -14,6 +14,15 @@ pub record Entry : Type 0 where
 unfoldable pub lookup : ℕ → List Entry → Option Entry
 lookup key [] = none
 lookup key (e ∷ es) = cond (eqb key (e .key)) (some e) (lookup key es)
+
+-- of a sorted list, the largest stamp below a given one and the smallest above it; 0 for none
+unfoldable pub below : ℕ → List Entry → ℕ
+below key [] = 0
+below key (e ∷ es) = cond (ltb (e .key) key) (max (e .key) (below key es)) (below key es)
+
+unfoldable pub above : ℕ → List Entry → ℕ
+above key [] = 0
+above key (e ∷ es) = cond (ltb key (e .key)) (e .key) (above key es)
 
 -- the list with one more, before the first that has a larger stamp
 unfoldable pub insert : Entry → List Entry → List Entry

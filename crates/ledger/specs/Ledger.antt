@@ -6,12 +6,13 @@ use mathlib.Core.List.{List}
 use lib.ListN.{length}
 use lib.Dec.{leb, ltb, eqb}
 use Rattle.scope.specs.Numbers.{lastChange}
-use Rattle.scope.specs.Answers.{accepted, refusal}
+use Rattle.scope.specs.Answers.{accepted, refusal, absence}
 use Rattle.scope.specs.Fit.{recordOk}
 use Rattle.scope.specs.declared.answer.Answer.{Answer}
+use Rattle.scope.specs.declared.outcome.Passed.{Passed}
 use Rattle.scope.specs.declared.answer.Refusal.{Refusal}
 use Rattle.scope.specs.declared.answer.Refusal.the-variants.{OutOfRange, KeyPresent, KeyAbsent, NoFreeSlot, LastChange}
-use Rattle.ledger.specs.Entries.{Entry, lookup, insert, replace, remove, sumTo}
+use Rattle.ledger.specs.Entries.{Entry, lookup, below, above, insert, replace, remove, sumTo}
 
 -- the records in the order of their stamps, the change number, and how many records there is room for
 pub record Ledger : Type 0 where
@@ -27,13 +28,19 @@ pub record Entered : Type 0 where
 abbrev pub entry : ℕ → ℕ → ℕ → Entry
 entry key pieces state = record { key = key; pieces = pieces; state = state }
 
+-- the neighbours of a stamp that is absent, in the form in which a walk would have passed them
+abbrev pub neighbours : ℕ → List Entry → Passed
+neighbours key es = record { below = below key es; above = above key es }
+
 -- calls that only answer
-abbrev pub foundEntry : ℕ → Option Entry → Answer
-foundEntry change none = refusal KeyAbsent
-foundEntry change (some e) = accepted change (e .pieces) 0 (e .state)
+abbrev pub foundEntry : ℕ → Passed → Option Entry → Answer
+foundEntry change near none = absence near
+foundEntry change near (some e) = accepted change (e .pieces) 0 (e .state)
 
 abbrev pub findIn : ℕ → Ledger → Answer
-findIn key L = cond (eqb key 0) (refusal OutOfRange) (foundEntry (L .change) (lookup key (L .entries)))
+findIn key L =
+    cond (eqb key 0) (refusal OutOfRange)
+    (foundEntry (L .change) (neighbours key (L .entries)) (lookup key (L .entries)))
 
 abbrev pub rankIn : ℕ → Ledger → Answer
 rankIn r L =
@@ -42,9 +49,12 @@ rankIn r L =
 abbrev pub totalIn : ℕ → Ledger → Answer
 totalIn K L = accepted (L .change) (sumTo K (L .entries)) 0 0
 
--- calls that change it: refused, or other entries and one change more
+-- calls that change it: refused; lacking the stamp that they need; or other entries and one change more
 abbrev pub kept : Ledger → Refusal → Entered
 kept L why = record { answer = refusal why; ledger = L }
+
+abbrev pub lacking : ℕ → Ledger → Entered
+lacking key L = record { answer = absence (neighbours key (L .entries)); ledger = L }
 
 abbrev pub entered : Ledger → List Entry → Entered
 entered L es =
@@ -70,10 +80,10 @@ postIn key pieces state L =
 abbrev pub amendIn : ℕ → ℕ → ℕ → Ledger → Entered
 amendIn key pieces state L =
     cond (recordOk key pieces state)
-    (onEntry (lookup key (L .entries)) (kept L KeyAbsent) (entered L (replace (entry key pieces state) (L .entries))))
+    (onEntry (lookup key (L .entries)) (lacking key L) (entered L (replace (entry key pieces state) (L .entries))))
     (kept L OutOfRange)
 
 abbrev pub dropIn : ℕ → Ledger → Entered
 dropIn key L =
     cond (eqb key 0) (kept L OutOfRange)
-    (onEntry (lookup key (L .entries)) (kept L KeyAbsent) (entered L (remove key (L .entries))))
+    (onEntry (lookup key (L .entries)) (lacking key L) (entered L (remove key (L .entries))))

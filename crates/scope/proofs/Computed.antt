@@ -5,7 +5,7 @@ use Rattle.scope.specs.Numbers.{ruleOf, sideOf, linkOf, slotsOf}
 use Rattle.scope.specs.Table.{slotsIn, slotAt, withSlot, linkAt, written}
 use Rattle.scope.specs.Edits.{writes}
 use Rattle.scope.specs.Fit.{stateOk, piecesOk, linkOk, tailOk, fitSlot, blankSlot, headerOk, recordOk}
-use Rattle.scope.specs.Tree.{size, inOrder, times, below, above, ordered}
+use Rattle.scope.specs.Tree.{size, inOrder, times, allBelow, allAbove, ordered}
 use Rattle.scope.specs.Sound.{treeOf, slotOk, slotsOk, soundTree, soundTable}
 use Rattle.scope.specs.Answers.{gate}
 use Rattle.scope.specs.Walk.{stepOf, walkFrom, walkOf}
@@ -25,6 +25,7 @@ use Rattle.scope.proofs.Marked.{marked, worked}
 use Rattle.scope.proofs.Further.{further}
 use Rattle.scope.proofs.Refusals.{refusalRows}
 use Rattle.scope.proofs.Damage.{damage}
+use Rattle.scope.proofs.Misses.{misses}
 use Rattle.scope.proofs.Bites.{bites}
 
 -- what the definitions give in each row is what the row states
@@ -39,12 +40,14 @@ pub record Computed : Type 0 where
   pub further-holds : RowsHold further
   pub refusals-hold : RowsHold refusalRows
   pub damage-holds : RowsHold damage
+  -- the neighbours of an absent key
+  pub misses-hold : RowsHold misses
   -- what rules idle calls out
   pub bites-hold : RowsHold bites
 
 pub computed : Computed
 unfolding ruleOf sideOf linkOf slotsOf slotsIn slotAt withSlot linkAt written writes stateOk piecesOk linkOk tailOk
-    fitSlot blankSlot headerOk size inOrder times below above ordered treeOf slotOk slotsOk soundTree soundTable
+    fitSlot blankSlot headerOk size inOrder times allBelow allAbove ordered treeOf slotOk slotsOk soundTree soundTable
     gate stepOf walkFrom walkOf startOf foundIn findAnswer recordOk freeFrom freeSlot hangAt postingAt postPlan hung
     posted postOf amendingAt amendPlan amended amendOf leftmostFrom ifMay dropAt droppingAt dropPlan relinked
     dropped dropOf checkAnswer pick rankOf ranked rankAnswer totalOf totalAnswer negOf posOf NEG POS BAL RBAL
@@ -58,5 +61,6 @@ computed =
       further-holds = rows further refl;
       refusals-hold = rows refusalRows refl;
       damage-holds = rows damage refl;
+      misses-hold = rows misses refl;
       bites-hold = rows bites refl;
     }

@@ -13,7 +13,7 @@ leaning =
     set (set (after (poured (40 ∷ 20 ∷ 10 ∷ [])) (fresh 3)) (registerAt 2 Left) 2) (registerAt 1 Left) 3
 
 -- 40 over 20 and 60, and 50 under 60; the register over 50 is told of it
-abbrev four : List ℕ
+abbrev pub four : List ℕ
 four = after (poured (40 ∷ 20 ∷ 60 ∷ 50 ∷ []) ++ (Fire 1 1 1 ∷ [])) (fresh 4)
 
 abbrev pub further : List Row
@@ -39,12 +39,10 @@ further =
     -- a son takes the link of a record that has no other; a freed slot is taken again, the lowest first
     ∷ row (header (after (poured (40 ∷ 20 ∷ []) ++ (Drop 40 ∷ [])) (fresh 3))) (headOf 2 1 3 0)
     ∷ row (fives (Post 70 5 2 ∷ []) (after (poured (40 ∷ 20 ∷ []) ++ (Drop 40 ∷ [])) (fresh 3))) (0 ∷ 4 ∷ 1 ∷ 0 ∷ 0 ∷ [])
-    -- find: a hit with its visits and its state, misses, an amended record
-    ∷ row (fives (Find 50 ∷ Find 40 ∷ Find 55 ∷ Find 1 ∷ []) four)
+    -- find: a hit with its visits and its state, an amended record
+    ∷ row (fives (Find 50 ∷ Find 40 ∷ []) four)
     (0 ∷ 4 ∷ 1 ∷ 3 ∷ 1
     ∷ 0 ∷ 4 ∷ 1 ∷ 1 ∷ 1
-    ∷ 5 ∷ 0 ∷ 0 ∷ 0 ∷ 0
-    ∷ 5 ∷ 0 ∷ 0 ∷ 0 ∷ 0
     ∷ [])
     ∷ row (fives (Amend 50 800 2 ∷ Find 50 ∷ []) four) (0 ∷ 5 ∷ 4 ∷ 0 ∷ 0 ∷ 0 ∷ 5 ∷ 800 ∷ 3 ∷ 2 ∷ [])
     -- rank by stamp, total up to a stamp, remelt counted too

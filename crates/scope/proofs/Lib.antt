@@ -5,6 +5,7 @@ pub mod Marked
 pub mod Further
 pub mod Refusals
 pub mod Damage
+pub mod Misses
 pub mod Bites
 pub mod Computed
 pub mod Teeth

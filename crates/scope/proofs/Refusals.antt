@@ -20,7 +20,7 @@ last = set (after (poured (40 ∷ 20 ∷ [])) (fresh 3)) changeWord 4294967295
 abbrev pub refusalRows : List Row
 refusalRows =
     -- a refusal is its code and four zeros
-    row (fives (Find 7 ∷ []) full) (5 ∷ 0 ∷ 0 ∷ 0 ∷ 0 ∷ [])
+    row (fives (Post 7 1 1 ∷ []) full) (6 ∷ 0 ∷ 0 ∷ 0 ∷ 0 ∷ [])
     -- 1: lengths that are not 4 + 8c with c from 1 on
     ∷ row (codes everyCall []) (replicate 11 1)
     ∷ row (codes everyCall (replicate 4 0)) (replicate 11 1)

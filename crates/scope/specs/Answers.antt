@@ -1,4 +1,4 @@
--- The five numbers, the codes, and the tests that every call begins with (document 01, "Calls and what they answer").
+-- The five numbers, the codes, and the tests that every call begins with (document 01, "Calls and what they answer"; document 02, order 1).
 use Prim.Native.Nat.{ℕ}
 use mathlib.Core.Bool.{Bool, cond}
 use mathlib.Core.List.{List}
@@ -11,6 +11,7 @@ use Rattle.scope.specs.declared.answer.Refusal.the-variants.{KeyAbsent, 
 use Rattle.scope.specs.declared.answer.Refusal.the-variants.{TooHigh, Unreadable}
 use Rattle.scope.specs.declared.answer.Gate.{Gate}
 use Rattle.scope.specs.declared.answer.Gate.the-variants.{Shut, Open}
+use Rattle.scope.specs.declared.outcome.Passed.{Passed}
 use Rattle.scope.specs.declared.slots.SlotsIs.{SlotsIs}
 use Rattle.scope.specs.declared.slots.SlotsIs.the-variants.{Within, Outside}
 
@@ -31,6 +32,10 @@ codeOf Unreadable = 10
 abbrev pub refusal : Refusal → Answer
 refusal why = record { code = codeOf why; change = 0; value = 0; more = 0; kind = 0 }
 
+-- a key that is absent: its code, and the last key passed on each side of the walk to it
+abbrev pub absence : Passed → Answer
+absence passed = record { code = codeOf KeyAbsent; change = 0; value = passed .below; more = passed .above; kind = 0 }
+
 -- an accepted call: code 0, the change number, and what the call has to say
 abbrev pub accepted : ℕ → ℕ → ℕ → ℕ → Answer
 accepted change value more kind =
@@ -44,6 +49,10 @@ pub record Done : Type 0 where
 -- a refused call leaves the table as it was
 abbrev pub refused : List ℕ → Refusal → Done
 refused t why = record { answer = refusal why; words = t }
+
+-- and so does one whose key is absent
+abbrev pub missed : List ℕ → Passed → Done
+missed t passed = record { answer = absence passed; words = t }
 
 -- tests 2 and 3 for a table of c slots: its arguments are in range, and it is whole as far as the call looks at once
 abbrev pub admit : Bool → Bool → ℕ → Gate

@@ -1,4 +1,4 @@
--- drop: a record is taken out, in the order of writing that document 01 gives ("Calls and what they answer").
+-- drop: a record is taken out, in the order of writing that document 01 gives ("Calls and what they answer"; of a miss document 02, order 1).
 use Prim.Native.Nat.{ℕ, zero, suc, _+_, _-_}
 use mathlib.Core.Bool.{cond, not, _||_}
 use mathlib.Core.List.{List}
@@ -8,13 +8,13 @@ use Rattle.scope.specs.Numbers.{lastChange}
 use Rattle.scope.specs.Table.{word, countWord, changeWord, slotAt, withRecord, withSlot, linkAt, registerAt}
 use Rattle.scope.specs.Fit.{fitSlot, headerOk}
 use Rattle.scope.specs.Table.{zeroSlot}
-use Rattle.scope.specs.Answers.{Done, refused, accepted, gate}
+use Rattle.scope.specs.Answers.{Done, refused, missed, accepted, gate}
 use Rattle.scope.specs.Walk.{walkOf}
 use Rattle.scope.specs.declared.slot.Slot.{Slot}
 use Rattle.scope.specs.declared.side.Side.the-variants.{Left, Right}
 use Rattle.scope.specs.declared.side.Link.{Link}
 use Rattle.scope.specs.declared.answer.Answer.{Answer}
-use Rattle.scope.specs.declared.answer.Refusal.the-variants.{Damaged, KeyAbsent, LastChange}
+use Rattle.scope.specs.declared.answer.Refusal.the-variants.{Damaged, LastChange}
 use Rattle.scope.specs.declared.answer.Gate.{Gate}
 use Rattle.scope.specs.declared.answer.Gate.the-variants.{Shut, Open}
 use Rattle.scope.specs.declared.outcome.Walk.{Walk}
@@ -22,7 +22,7 @@ use Rattle.scope.specs.declared.outcome.Walk.the-variants.{Hit, Miss, Da
 use Rattle.scope.specs.declared.outcome.Leftmost.{Leftmost}
 use Rattle.scope.specs.declared.outcome.Leftmost.the-variants as leftmost
 use Rattle.scope.specs.declared.outcome.Dropping.{Dropping}
-use Rattle.scope.specs.declared.outcome.Dropping.the-variants.{Refuse, Lift, Replace}
+use Rattle.scope.specs.declared.outcome.Dropping.the-variants.{Refuse, Absent, Lift, Replace}
 
 -- the leftmost slot below slot k, which hangs at `link`; `more` slots may still be visited
 unfoldable pub leftmostFrom : ℕ → List ℕ → ℕ → ℕ → Link → Leftmost
@@ -53,7 +53,7 @@ dropAt t c slot link seen =
 
 unfoldable pub droppingAt : List ℕ → ℕ → Walk → Dropping
 droppingAt t c (Hit slot link seen) = dropAt t c slot link seen
-droppingAt t c (Miss link seen) = Refuse KeyAbsent
+droppingAt t c (Miss passed link seen) = Absent passed
 droppingAt t c Damage = Refuse Damaged
 
 abbrev pub dropping : Gate → (ℕ → Dropping) → Dropping
@@ -100,6 +100,7 @@ counted t x = set (set x countWord (word t countWord - 1)) changeWord (word t ch
 
 unfoldable pub dropped : List ℕ → Dropping → Done
 dropped t (Refuse why) = refused t why
+dropped t (Absent passed) = missed t passed
 dropped t (Lift slot link son) =
     record { answer = accepted (word t changeWord + 1) slot 0 0; words = counted t (lifted t slot link son) }
 dropped t (Replace slot least link) =

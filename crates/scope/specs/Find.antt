@@ -1,4 +1,4 @@
--- start and find (document 01, "Calls and what they answer").
+-- start and find (document 01, "Calls and what they answer"; of a miss document 02, order 1).
 use Prim.Native.Nat.{ℕ}
 use mathlib.Core.Bool.{true, not}
 use mathlib.Core.List.{List}
@@ -6,10 +6,10 @@ use lib.ListN.{length, replicate}
 use lib.Dec.{eqb}
 use Rattle.scope.specs.Table.{word, changeWord, slotAt}
 use Rattle.scope.specs.Fit.{headerOk}
-use Rattle.scope.specs.Answers.{Done, refused, accepted, refusal, gate, answering}
+use Rattle.scope.specs.Answers.{Done, refused, accepted, refusal, absence, gate, answering}
 use Rattle.scope.specs.Walk.{walkOf}
 use Rattle.scope.specs.declared.answer.Answer.{Answer}
-use Rattle.scope.specs.declared.answer.Refusal.the-variants.{Damaged, KeyAbsent}
+use Rattle.scope.specs.declared.answer.Refusal.the-variants.{Damaged}
 use Rattle.scope.specs.declared.answer.Gate.{Gate}
 use Rattle.scope.specs.declared.answer.Gate.the-variants.{Shut, Open}
 use Rattle.scope.specs.declared.outcome.Walk.{Walk}
@@ -29,11 +29,11 @@ startAnswer t = startOf t .answer
 abbrev pub startTable : List ℕ → List ℕ
 startTable t = startOf t .words
 
--- a hit answers the record's pieces, the slots visited and the record's state
+-- a hit answers the record's pieces, the slots visited and the record's state; a miss the last keys passed
 unfoldable pub foundIn : List ℕ → Walk → Answer
 foundIn t (Hit slot link seen) =
     accepted (word t changeWord) (slotAt t slot .pieces) seen (slotAt t slot .state)
-foundIn t (Miss link seen) = refusal KeyAbsent
+foundIn t (Miss passed link seen) = absence passed
 foundIn t Damage = refusal Damaged
 
 unfoldable pub findAnswer : List ℕ → ℕ → Answer

@@ -39,7 +39,7 @@ hangAt t c link k =
 -- test 4 comes before them
 unfoldable pub postingAt : List ℕ → ℕ → Walk → Posting
 postingAt t c (Hit slot link seen) = Refuse KeyPresent
-postingAt t c (Miss link seen) = hangAt t c link (freeSlot t c)
+postingAt t c (Miss passed link seen) = hangAt t c link (freeSlot t c)
 postingAt t c Damage = Refuse Damaged
 
 abbrev pub posting : Gate → (ℕ → Posting) → Posting

@@ -44,18 +44,18 @@ trueHeight leaf = 0
 trueHeight (node d a b l r) = over (trueHeight l) (trueHeight r)
 
 -- every key is smaller than b, or larger
-unfoldable pub below : ℕ → Tree → Bool
-below b leaf = true
-below b (node d h g l r) = ltb (d .key) b && (below b l && below b r)
+unfoldable pub allBelow : ℕ → Tree → Bool
+allBelow b leaf = true
+allBelow b (node d h g l r) = ltb (d .key) b && (allBelow b l && allBelow b r)
 
-unfoldable pub above : ℕ → Tree → Bool
-above b leaf = true
-above b (node d h g l r) = ltb b (d .key) && (above b l && above b r)
+unfoldable pub allAbove : ℕ → Tree → Bool
+allAbove b leaf = true
+allAbove b (node d h g l r) = ltb b (d .key) && (allAbove b l && allAbove b r)
 
 -- keys to the left of a node are smaller and those to the right larger
 unfoldable pub ordered : Tree → Bool
 ordered leaf = true
-ordered (node d h g l r) = (below (d .key) l && above (d .key) r) && (ordered l && ordered r)
+ordered (node d h g l r) = (allBelow (d .key) l && allAbove (d .key) r) && (ordered l && ordered r)
 
 -- the same three as statements
 unfoldable pub Below : ℕ → Tree → Type 0

@@ -1,4 +1,5 @@
--- The search walk from the root down (document 01, "Calls and what they answer"; the form in "Kept as constants of their type").
+-- The search walk from the root down (document 01, "Calls and what they answer"; the form in "Kept as constants of their type"),
+-- and the last keys that it passes (document 02, order 1).
 use Prim.Native.Nat.{ℕ, zero, suc, _+_}
 use mathlib.Core.Bool.{cond}
 use mathlib.Core.List.{List}
@@ -12,6 +13,7 @@ use Rattle.scope.specs.declared.side.Side.the-variants.{Left, Right}
 use Rattle.scope.specs.declared.side.Link.{Link}
 use Rattle.scope.specs.declared.outcome.Step.{Step}
 use Rattle.scope.specs.declared.outcome.Step.the-variants.{Here, Down, Broken}
+use Rattle.scope.specs.declared.outcome.Passed.{Passed}
 use Rattle.scope.specs.declared.outcome.Walk.{Walk}
 use Rattle.scope.specs.declared.outcome.Walk.the-variants.{Hit, Miss, Damage}
 
@@ -27,15 +29,24 @@ onStep Broken hit on = Damage
 onStep Here hit on = hit
 onStep (Down side next) hit on = on side next
 
+-- the last key passed on each side: none before the root; at a turn to the left the slot's key lies above, at one to the right below
+abbrev pub nonePassed : Passed
+nonePassed = record { below = 0; above = 0 }
+
+abbrev pub passing : Side → ℕ → Passed → Passed
+passing Left k passed = record { below = passed .below; above = k }
+passing Right k passed = record { below = k; above = passed .above }
+
 module _ (t : List ℕ) (c key : ℕ) where
-  -- the walk from slot k, which hangs at `link`, with `seen` slots visited and `more` that may still be
-  unfoldable pub walkFrom : ℕ → ℕ → Link → ℕ → Walk
-  walkFrom zero k link seen = cond (eqb k 0) (Miss link seen) Damage
-  walkFrom (suc more) k link seen =
-      cond (eqb k 0) (Miss link seen)
+  -- the walk from slot k, which hangs at `link`, with the last keys passed and `seen` slots visited, and `more` that may still be
+  unfoldable pub walkFrom : ℕ → ℕ → Link → Passed → ℕ → Walk
+  walkFrom zero k link passed seen = cond (eqb k 0) (Miss passed link seen) Damage
+  walkFrom (suc more) k link passed seen =
+      cond (eqb k 0) (Miss passed link seen)
       (onStep (stepOf c key (slotAt t k)) (Hit k link (seen + 1))
-      (λ side next. walkFrom more next (record { holder = k; side = side }) (seen + 1)))
+      (λ side next.
+      walkFrom more next (record { holder = k; side = side }) (passing side (slotAt t k .key) passed) (seen + 1)))
 
   -- the walk of a key: at most c slots are visited
   unfoldable pub walkOf : Walk
-  walkOf = walkFrom c (word t rootWord) rootLink 0
+  walkOf = walkFrom c (word t rootWord) rootLink nonePassed 0

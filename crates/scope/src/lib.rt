@@ -18,6 +18,7 @@ pub use outcome::Firing;
 pub use outcome::Leftmost;
 pub use outcome::Next;
 pub use outcome::Nodes;
+pub use outcome::Passed;
 pub use outcome::Posting;
 pub use outcome::Rank;
 pub use outcome::Scan;

@@ -12,6 +12,12 @@ pub enum Step {
     Broken,
 }
 
+// The last key that a walk has passed on each side of the one it is for: one below it, one above it, 0 for none.
+pub struct Passed {
+    pub below: u32,
+    pub above: u32,
+}
+
 // How a walk ends: at its slot, at the empty link where its key would hang, or at damage.
 pub enum Walk {
     Hit {
@@ -20,6 +26,7 @@ pub enum Walk {
         seen: usize,
     },
     Miss {
+        passed: Passed,
         link: Link,
         seen: usize,
     },
@@ -41,6 +48,7 @@ pub enum Posting {
 // What an amend is to do.
 pub enum Amending {
     Refuse(Refusal),
+    Absent(Passed),
     Change(usize),
 }
 
@@ -48,6 +56,7 @@ pub enum Amending {
 // leftmost record of its right side takes.
 pub enum Dropping {
     Refuse(Refusal),
+    Absent(Passed),
     Lift {
         slot: usize,
         link: Link,

@@ -1,13 +1,16 @@
--- The search walk on a tree: what it finds, the way that it takes, and how many nodes it visits. Assumes nothing: these are definitions.
+-- The search walk on a tree: what it finds, the way that it takes, the keys it passes last, the nodes it visits. Assumes nothing:
+-- these are definitions.
 use Prim.Native.Nat.{ℕ, suc}
 use mathlib.Core.Bool.{cond}
 use mathlib.Core.Option.{Option, none, some}
 use mathlib.Core.List.{List, [], _∷_}
 use lib.Dec.{eqb, ltb}
 use Rattle.scope.specs.Tree.{Batch, Tree, leaf, node}
+use Rattle.scope.specs.Walk.{passing}
 use Rattle.scope.specs.declared.side.Side.{Side}
 use Rattle.scope.specs.declared.side.Side.the-variants.{Left, Right}
 use Rattle.scope.specs.declared.side.Link.{Link}
+use Rattle.scope.specs.declared.outcome.Passed.{Passed}
 use Rattle.scope.specs.declared.outcome.Walk.{Walk}
 use Rattle.scope.specs.declared.outcome.Walk.the-variants.{Hit, Miss}
 
@@ -25,10 +28,18 @@ visits key leaf = 0
 visits key (node d a b l r) =
     suc (cond (eqb key (d .key)) 0 (cond (ltb key (d .key)) (visits key l) (visits key r)))
 
--- how a walk ends that finds this, at that link, with so many visits
-abbrev pub sought : Option Batch → Link → ℕ → Walk
-sought none link seen = Miss link seen
-sought (some d) link seen = Hit (d .slot) link seen
+-- the last keys passed on each side, where these were passed before
+unfoldable pub passedTo : ℕ → Tree → Passed → Passed
+passedTo key leaf passed = passed
+passedTo key (node d a b l r) passed =
+    cond (eqb key (d .key)) passed
+    (cond (ltb key (d .key))
+    (passedTo key l (passing Left (d .key) passed)) (passedTo key r (passing Right (d .key) passed)))
+
+-- how a walk ends that finds this, at that link, with those keys passed last and so many visits
+abbrev pub sought : Option Batch → Link → Passed → ℕ → Walk
+sought none link passed seen = Miss passed link seen
+sought (some d) link passed seen = Hit (d .slot) link seen
 
 -- a register beside a son; beside none it is 0
 abbrev pub beside : ℕ → Tree → ℕ

@@ -4,20 +4,22 @@ use mathlib.Core.Path.{_≡_, refl, sym, _∙_}
 use mathlib.Core.Bool.{Bool, true, false, not}
 use mathlib.Core.List.{List}
 use native.Mathlib.Omega.{arith}
-use borrow.Author.Tests.{eq-eqb, ne-eqb}
-use lib.Dec.{ltb}
-use Rattle.scope.proofs.Bools.{by-bool, not-true, not-false}
+use borrow.Author.Tests.{eq-eqb, ne-eqb, leb-true, leb-false}
+use lib.Dec.{ltb, leb}
+use Rattle.scope.proofs.Bools.{and-l, and-r, by-bool, not-true, not-false}
 use Rattle.scope.specs.Numbers.{rootLink}
 use Rattle.scope.specs.Table.{word, rootWord, slotAt, son}
 use Rattle.scope.specs.Fit.{fitSlot}
-use Rattle.scope.specs.Walk.{stepOf, onStep, walkFrom, walkOf}
+use Rattle.scope.specs.Walk.{stepOf, onStep, nonePassed, passing, walkFrom, walkOf}
 use Rattle.scope.specs.declared.slot.Slot.{Slot}
 use Rattle.scope.specs.declared.side.Side.{Side}
 use Rattle.scope.specs.declared.side.Link.{Link}
 use Rattle.scope.specs.declared.outcome.Step.the-variants.{Here, Down, Broken}
+use Rattle.scope.specs.declared.outcome.Passed.{Passed}
 use Rattle.scope.specs.declared.outcome.Walk.the-variants.{Hit, Miss, Damage}
 use Rattle.spelling.specs.Ready.{Ready}
 use Rattle.spelling.proofs.Laws.{fit-left, fit-right}
+use Rattle.gate.specs.Parts.{visitOk}
 use Rattle.walk.specs.Walked.{Walked, wayOf}
 
 -- what a slot says that is not fit
@@ -49,80 +51,91 @@ way-le c key s f =
 
 -- what the walk does at its three kinds of place
 module _ (t : List ℕ) (c key : ℕ) where
-  at-end : (n at : ℕ) (link : Link) (seen : ℕ) → at ≡ 0 → walkFrom t c key n at link seen ≡ Miss link seen
+  at-end : (n at : ℕ) (link : Link) (passed : Passed) (seen : ℕ) → at ≡ 0
+      → walkFrom t c key n at link passed seen ≡ Miss passed link seen
   unfolding walkFrom
-  at-end zero at link seen z = simp (eq-eqb _ _ z)
-  at-end (suc n) at link seen z = simp (eq-eqb _ _ z)
+  at-end zero at link passed seen z = simp (eq-eqb _ _ z)
+  at-end (suc n) at link passed seen z = simp (eq-eqb _ _ z)
 
-  spent : (n at : ℕ) (link : Link) (seen : ℕ) → n ≡ 0 → (at ≡ 0 → ⊥) → walkFrom t c key n at link seen ≡ Damage
+  spent : (n at : ℕ) (link : Link) (passed : Passed) (seen : ℕ) → n ≡ 0 → (at ≡ 0 → ⊥)
+      → walkFrom t c key n at link passed seen ≡ Damage
   unfolding walkFrom
-  spent n at link seen e z = rw e (simp (ne-eqb _ _ z))
+  spent n at link passed seen e z = rw e (simp (ne-eqb _ _ z))
 
-  visit : (n m at : ℕ) (link : Link) (seen : ℕ) → n ≡ suc m → (at ≡ 0 → ⊥)
-      → walkFrom t c key n at link seen
+  visit : (n m at : ℕ) (link : Link) (passed : Passed) (seen : ℕ) → n ≡ suc m → (at ≡ 0 → ⊥)
+      → walkFrom t c key n at link passed seen
       ≡ onStep (stepOf c key (slotAt t at)) (Hit at link (seen + 1))
-      (λ side next. walkFrom t c key m next (record { holder = at; side = side }) (seen + 1))
+      (λ side next.
+      walkFrom t c key m next (record { holder = at; side = side }) (passing side (slotAt t at .key) passed) (seen + 1))
   unfolding walkFrom
-  visit n m at link seen e z = rw e (simp (ne-eqb at 0 z))
+  visit n m at link passed seen e z = rw e (simp (ne-eqb at 0 z))
 
--- the whole walk is what is still to be walked, from the link to slot `at` or to nothing, with `seen` slots visited
-pub record Heading (t : List ℕ) (c key at : ℕ) (link : Link) (seen : ℕ) : Type 0 where
-  pub rest : walkOf t c key ≡ walkFrom t c key (c - seen) at link seen
+-- the whole walk is what is still to be walked, from the link to slot `at` or to nothing, with the last keys passed and `seen`
+-- slots visited
+pub record Heading (t : List ℕ) (c key at : ℕ) (link : Link) (passed : Passed) (seen : ℕ) : Type 0 where
+  pub rest : walkOf t c key ≡ walkFrom t c key (c - seen) at link passed seen
   pub at-le : at ≤ c
   pub holder-le : link .holder ≤ c
   pub seen-le : seen ≤ c
 
 module _ {t : List ℕ} {c key : ℕ} where
-  pub begins : Ready t c → Heading t c key (word t rootWord) rootLink 0
+  pub begins : Ready t c → Heading t c key (word t rootWord) rootLink nonePassed 0
   unfolding walkOf
   begins r =
       let e : c - 0 ≡ c = omega arith in
       record { rest = rw e refl; at-le = r .root; holder-le = omega arith; seen-le = omega arith }
 
-  module _ {at : ℕ} {link : Link} {seen : ℕ} (h : Heading t c key at link seen) where
-    pub ends-empty : at ≡ 0 → Walked t c key (Miss link seen)
+  module _ {at : ℕ} {link : Link} {passed : Passed} {seen : ℕ} (h : Heading t c key at link passed seen) where
+    pub ends-empty : at ≡ 0 → Walked t c key (Miss passed link seen)
     ends-empty z =
-        record { is = sym (h .rest ∙ at-end t c key (c - seen) at link seen z); inside = (h .holder-le, h .seen-le) }
+        record { is = sym (h .rest ∙ at-end t c key (c - seen) at link passed seen z); inside = (h .holder-le, h .seen-le) }
 
-    pub ends-spent : (at ≡ 0 → ⊥) → seen ≡ c → Walked t c key Damage
-    ends-spent ne e =
-        record { is = sym (h .rest ∙ spent t c key (c - seen) at link seen (omega (arith, e)) ne); inside = tt }
+  -- the walk heads for slot `at`, which was read as s and leads to `next` on a side, and is asked whether the visit is in order
+  module _ {at : ℕ} {link : Link} {passed : Passed} {seen : ℕ} (h : Heading t c key at link passed seen)
+      (some : at ≡ 0 → ⊥) {s : Slot} {side : Side} {next : ℕ} (read : s ≡ slotAt t at) (turned : side ≡ wayOf key s)
+      (led : next ≡ son s side) {b : Bool} (asked : b ≡ visitOk c (seen + 1) s) where
+    -- one visit more, and the whole walk is what this slot makes of it
+    module _ (more : seen + 1 ≤ c) where
+      visited : walkOf t c key
+          ≡ onStep (stepOf c key s) (Hit at link (seen + 1))
+          (λ side next.
+          walkFrom t c key (c - (seen + 1)) next (record { holder = at; side = side }) (passing side (s .key) passed) (seen + 1))
+      visited =
+          rw read (h .rest ∙ visit t c key (c - seen) (c - (seen + 1)) at link passed seen (omega (arith, more)) some)
 
-    pub one-more : (seen ≡ c → ⊥) → seen + 1 ≤ c
-    one-more room = omega (arith, h .seen-le, room)
+    -- the visit is one too many, or the slot is not fit
+    pub ends-broken : not b ≡ true → Walked t c key Damage
+    ends-broken n =
+        by-bool (leb (seen + 1) c)
+        (λ p. let f = sym (simp p at asked) ∙ not-true b n in
+        record { is = sym (rw (unfit c key s f) at (visited (leb-true (seen + 1) c p))); inside = tt })
+        (λ p. let l = leb-false (seen + 1) c p in
+        record { is = sym (h .rest ∙ spent t c key (c - seen) at link passed seen (omega (arith, l, h .seen-le)) some); inside = tt })
 
-  -- the walk heads for slot `at`, which was read as s and leads to `next` on a side
-  module _ {at : ℕ} {link : Link} {seen : ℕ} (h : Heading t c key at link seen)
-      (some : at ≡ 0 → ⊥) (room : seen ≡ c → ⊥) {s : Slot} {side : Side} {next : ℕ}
-      (read : s ≡ slotAt t at) (turned : side ≡ wayOf key s) (led : next ≡ son s side) where
-    more : seen + 1 ≤ c
-    more = one-more h room
+    -- the visit is in order
+    module _ (n : not b ≡ false) where
+      passes : visitOk c (seen + 1) s ≡ true
+      passes = sym asked ∙ not-false b n
 
-    -- the whole walk is what this slot makes of it
-    visited : walkOf t c key
-        ≡ onStep (stepOf c key s) (Hit at link (seen + 1))
-        (λ side next. walkFrom t c key (c - (seen + 1)) next (record { holder = at; side = side }) (seen + 1))
-    visited = rw read (h .rest ∙ visit t c key (c - seen) (c - (seen + 1)) at link seen (omega (arith, more)) some)
+      pub one-more : seen + 1 ≤ c
+      one-more = leb-true (seen + 1) c (and-l (leb (seen + 1) c) (fitSlot c s) passes)
 
-    -- it was asked whether it is fit
-    module _ {b : Bool} (asked : b ≡ fitSlot c s) where
-      pub ends-unfit : not b ≡ true → Walked t c key Damage
-      ends-unfit n = record { is = sym (rw (unfit c key s (sym asked ∙ not-true b n)) at visited); inside = tt }
+      fits : fitSlot c s ≡ true
+      fits = and-r (leb (seen + 1) c) (fitSlot c s) passes
 
-      pub ends-here : not b ≡ false → key ≡ s .key → Walked t c key (Hit at link (seen + 1))
-      ends-here n e =
+      pub ends-here : key ≡ s .key → Walked t c key (Hit at link (seen + 1))
+      ends-here e =
           record {
-            is = sym (rw (holds c key s (sym asked ∙ not-false b n) e) at visited);
-            inside = (omega (arith, some), h .at-le, h .holder-le, omega arith, more);
+            is = sym (rw (holds c key s fits e) at (visited one-more));
+            inside = (omega (arith, some), h .at-le, h .holder-le, omega arith, one-more);
           }
 
-      pub passes-on : not b ≡ false → (key ≡ s .key → ⊥)
-          → Heading t c key next (record { holder = at; side = side }) (seen + 1)
-      passes-on n other =
-          let f : fitSlot c s ≡ true = sym asked ∙ not-false b n in
+      pub passes-on : (key ≡ s .key → ⊥) → {p : Passed} → p ≡ passing side (s .key) passed
+          → Heading t c key next (record { holder = at; side = side }) p (seen + 1)
+      passes-on other kept =
           record {
-            rest = rw (led, turned) (rw (leads c key s f other) at visited);
-            at-le = rw (led, turned) (way-le c key s f);
+            rest = rw (kept, led, turned) (rw (leads c key s fits other) at (visited one-more));
+            at-le = rw (led, turned) (way-le c key s fits);
             holder-le = h .at-le;
-            seen-le = more;
+            seen-le = one-more;
           }

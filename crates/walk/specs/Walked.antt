@@ -14,7 +14,7 @@ use Rattle.scope.specs.declared.outcome.Walk.the-variants.{Hit, Miss, Damage}
 -- slots, holders and visits are at most c
 abbrev pub WalkInside : ℕ → Walk → Type 0
 WalkInside c (Hit slot link seen) = (1 ≤ slot) × (slot ≤ c) × (link .holder ≤ c) × (1 ≤ seen) × (seen ≤ c)
-WalkInside c (Miss link seen) = (link .holder ≤ c) × (seen ≤ c)
+WalkInside c (Miss passed link seen) = (link .holder ≤ c) × (seen ≤ c)
 WalkInside c Damage = Unit {0}
 
 pub record Walked (t : List ℕ) (c key : ℕ) (r : Walk) : Type 0 where

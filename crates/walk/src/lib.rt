@@ -2,6 +2,7 @@
 use scope::Answer;
 use scope::Gate;
 use scope::Link;
+use scope::Passed;
 use scope::Refusal;
 use scope::Side;
 use scope::Slot;
@@ -9,6 +10,7 @@ use scope::SlotsIs;
 use scope::Walk;
 ghost use mathlib.Core.Path.{_≡_};
 ghost use lib.ListN.{length, replicate};
+ghost use Rattle.scope.specs.Walk.{passing};
 ghost use Rattle.scope.specs.Find.{foundIn};
 ghost use Rattle.scope.specs.Calls.{Start, Find, Promise};
 ghost use Rattle.spelling.specs.Ready.{Sized, Ready};
@@ -21,8 +23,25 @@ pub fn way(key: u32, s: Slot) -> Side
     if key < s.key { Side::Left } else { Side::Right }
 }
 
+// The last keys passed after a turn at a key: to the left it lies above, to the right below.
+pub fn pass(side: Side, key: u32, passed: Passed) -> Passed
+    ensures { λ r. ⌜ r ≡ passing side key passed ⌝ }
+{
+    match side {
+        Side::Left => Passed {
+            below: passed.below,
+            above: key,
+        },
+        Side::Right => Passed {
+            below: key,
+            above: passed.above,
+        },
+    }
+}
+
 // Walks from the root to a key, or to the empty link where it would hang. Each slot is first asked where it leads, and
-// tested only then: the processor needs the answer for the next slot, and does the tests beside it.
+// tested only then, together with the number of its visit: the processor needs the answer for the next slot, and does
+// the tests beside it.
 pub fn search(t: &[u32], c: usize, key: u32) -> Walk
     requires { ⌜ Ready (now t) c ⌝ }
     ensures { λ r. ⌜ Walked (now (t .entry)) c key r ⌝ }
@@ -32,19 +51,17 @@ pub fn search(t: &[u32], c: usize, key: u32) -> Walk
         holder: Link::ROOT,
         side: Side::Left,
     };
+    let mut passed = Passed { below: 0, above: 0 };
     let mut seen: usize = 0;
     loop {
         if at == 0 {
-            break Walk::Miss { link, seen };
-        }
-        if seen == c {
-            break Walk::Damage;
+            break Walk::Miss { passed, link, seen };
         }
         let s = words::slot_at(t, at);
         let side = way(key, s);
         let next = words::son(s, side);
         seen += 1;
-        if !gate::fit(c, s) {
+        if !gate::visit_ok(c, seen, s) {
             break Walk::Damage;
         }
         if key == s.key {
@@ -55,6 +72,7 @@ pub fn search(t: &[u32], c: usize, key: u32) -> Walk
             };
         }
         link = Link { holder: at, side };
+        passed = pass(side, s.key, passed);
         at = next;
     }
 }
@@ -66,7 +84,7 @@ pub fn found(t: &[u32], c: usize, w: Walk) -> Answer
 {
     match w {
         Walk::Damage => gate::refuse(Refusal::Damaged),
-        Walk::Miss { .. } => gate::refuse(Refusal::KeyAbsent),
+        Walk::Miss { passed, .. } => gate::absent(passed),
         Walk::Hit { slot, seen, .. } => {
             let s = words::slot_at(t, slot);
             gate::accept(

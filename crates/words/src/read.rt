@@ -31,12 +31,27 @@ pub fn size(n: usize) -> u64
     n as u64
 }
 
+// The header's words of the root and of the count, as they stand.
+pub fn root_word(t: &[u32]) -> u32
+    requires { ⌜ Headed (now t) ⌝ }
+    ensures { λ r. ⌜ r ≡ word (now (t .entry)) rootWord ⌝ }
+{
+    t[Head::ROOT]
+}
+
+pub fn records_word(t: &[u32]) -> u32
+    requires { ⌜ Headed (now t) ⌝ }
+    ensures { λ r. ⌜ r ≡ word (now (t .entry)) countWord ⌝ }
+{
+    t[Head::COUNT]
+}
+
 // The root's slot, 0 for none.
 pub fn root(t: &[u32]) -> usize
     requires { ⌜ Headed (now t) ⌝ }
     ensures { λ r. ⌜ r ≡ word (now (t .entry)) rootWord ⌝ }
 {
-    wide(t[Head::ROOT])
+    wide(root_word(t))
 }
 
 // How many records the header counts.
@@ -44,7 +59,7 @@ pub fn records(t: &[u32]) -> usize
     requires { ⌜ Headed (now t) ⌝ }
     ensures { λ r. ⌜ r ≡ word (now (t .entry)) countWord ⌝ }
 {
-    wide(t[Head::COUNT])
+    wide(records_word(t))
 }
 
 // The change number.

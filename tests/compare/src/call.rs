@@ -1,4 +1,4 @@
-//! The eleven calls as data: each can be run by the proved library and by the second writing of document 01.
+//! The eleven calls as data: each can be run by the proved library and by the second writing of document 01 and order 1 of document 02.
 
 use crate::records::Answer;
 use crate::{firing, library, records, sums};

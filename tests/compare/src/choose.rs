@@ -56,15 +56,15 @@ fn slot_key(dice: &mut Dice, words: &[u32]) -> u32 {
     found.unwrap_or_else(|| dice.below(80) as u32)
 }
 
-/// A key: mostly one of the table's, or beside one; also 0 and the largest.
+/// A key: mostly one of the table's, often one above or below it; also 0 and the largest.
 fn key(dice: &mut Dice, words: &[u32]) -> u32 {
     match dice.below(32) {
         0 => 0,
         1 => u32::MAX,
         2 => dice.word(),
         3 => dice.below(40) as u32,
-        4 => slot_key(dice, words).wrapping_add(1),
-        5 => slot_key(dice, words).wrapping_sub(1),
+        4..=6 => slot_key(dice, words).wrapping_add(1),
+        7..=9 => slot_key(dice, words).wrapping_sub(1),
         _ => slot_key(dice, words),
     }
 }

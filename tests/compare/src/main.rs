@@ -1,4 +1,4 @@
-//! Compares the proved library with document 01 written a second time: `compare [CALLS] [SEED]`, or
+//! Compares the proved library with document 01 and order 1 of document 02 written a second time: `compare [CALLS] [SEED]`, or
 //! `compare --case 'CALL : WORDS'` to repeat one case. The last line is `N passed, M failed`.
 //! `compare --scripts PROGRAM COUNT SEED` does the same with the program `stand`, and `compare --stand` prints what
 //! that program has to print for its input.
@@ -13,6 +13,7 @@ mod groups;
 #[path = "../../../bindings/rust/src/raw.rs"]
 mod library;
 mod marked;
+mod misses;
 mod paper;
 mod records;
 mod run;
@@ -26,7 +27,7 @@ use std::io::Read;
 use std::process::ExitCode;
 use std::time::Instant;
 
-/// From so many calls on, every code has to be seen from every call that can give it.
+/// From so many calls on, every code has to be seen from every call that can give it, and every kind of miss.
 const ENOUGH_CALLS: u64 = 100_000;
 
 fn main() -> ExitCode {
@@ -103,7 +104,7 @@ fn all(calls: u64, seed: u64) -> ExitCode {
         } else {
             failed += 1
         }
-        println!("codes and rules that were not seen: {}", if missing.is_empty() { "none" } else { "some" });
+        println!("codes, rules and misses that were not seen: {}", if missing.is_empty() { "none" } else { "some" });
         missing.iter().for_each(|what| println!("  {what}"));
     }
     verdict(passed, failed)

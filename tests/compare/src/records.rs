@@ -1,4 +1,4 @@
-//! start, check, find, post, amend and drop as document 01 states them.
+//! start, check, find, post, amend and drop as document 01 states them, with what a miss names as document 02 does.
 
 use crate::paper::*;
 
@@ -15,12 +15,14 @@ pub fn accept(words: &[u32], value: u64, more: u64, kind: u64) -> Answer {
     [0, u64::from(words[CHANGE]), value, more, kind]
 }
 
-/// Where a search ended: at a record or at an empty link, with the link it came by and the slots visited.
+/// Where a search ended: at a record or at an empty link, with the link it came by, the slots visited and the keys that
+/// were passed on the way to the sought one, in their order.
 pub struct Way {
     pub slot: usize,
     pub holder: usize,
     pub side: usize,
     pub visits: usize,
+    passed: Vec<u32>,
 }
 
 impl Way {
@@ -35,6 +37,14 @@ impl Way {
         (self.holder, self.side) = (self.slot, side);
         self.slot = link(words, self.slot, side);
     }
+
+    /// The refusal of an absent key: it names the last smaller and the last larger one of the keys passed.
+    fn miss(&self, key: u32) -> Answer {
+        let smaller = self.passed.iter().rfind(|&&passed| passed < key);
+        let larger = self.passed.iter().rfind(|&&passed| passed > key);
+        let named = |found: Option<&u32>| found.map_or(0, |&passed| u64::from(passed));
+        [KEY_ABSENT, 0, named(smaller), named(larger), 0]
+    }
 }
 
 /// Walks from the root to a key or to the empty link where it would be; none if the walk meets damage.
@@ -42,7 +52,7 @@ fn walk(words: &[u32], slots: usize, key: u32) -> Option<Way> {
     if !header_good(words, slots) {
         return None;
     }
-    let mut way = Way { slot: words[ROOT] as usize, holder: 0, side: 0, visits: 0 };
+    let mut way = Way { slot: words[ROOT] as usize, holder: 0, side: 0, visits: 0, passed: Vec::new() };
     while way.slot != 0 {
         if !way.visit(words, slots) {
             return None;
@@ -51,6 +61,7 @@ fn walk(words: &[u32], slots: usize, key: u32) -> Option<Way> {
         if here == key {
             return Some(way);
         }
+        way.passed.push(here);
         way.go(words, usize::from(key > here));
     }
     Some(way)
@@ -79,7 +90,7 @@ pub fn find(words: &[u32], key: u32) -> Answer {
     }
     match walk(words, slots, key) {
         None => refuse(DAMAGED),
-        Some(way) if way.slot == 0 => refuse(KEY_ABSENT),
+        Some(way) if way.slot == 0 => way.miss(key),
         Some(way) => {
             let field = |f| u64::from(get(words, way.slot, f));
             accept(words, field(PIECES), way.visits as u64, field(STATE))
@@ -124,7 +135,7 @@ pub fn amend(words: &mut [u32], key: u32, pieces: u32, state: u32) -> Answer {
     }
     let Some(way) = walk(words, slots, key) else { return refuse(DAMAGED) };
     if way.slot == 0 {
-        return refuse(KEY_ABSENT);
+        return way.miss(key);
     }
     if words[CHANGE] == u32::MAX {
         return refuse(LAST_CHANGE);
@@ -151,7 +162,7 @@ pub fn drop(words: &mut [u32], key: u32) -> Answer {
     let Some(mut way) = walk(words, slots, key) else { return refuse(DAMAGED) };
     let record = way.slot;
     if record == 0 {
-        return refuse(KEY_ABSENT);
+        return way.miss(key);
     }
     let sons = [link(words, record, 0), link(words, record, 1)];
     let two = sons[0] != 0 && sons[1] != 0;

@@ -4,14 +4,16 @@ use crate::bench::Bench;
 use crate::call::{Call, CODES, NAMES};
 use crate::choose::any_call;
 use crate::dice::Dice;
+use crate::misses::Misses;
 use crate::records::Answer;
 use crate::shrink::{show, shrink};
 
-/// What the comparisons have seen: how often each call gave each code, and each rule was fired.
+/// What the comparisons have seen: how often each call gave each code and each rule was fired, and which misses.
 #[derive(Default)]
 pub struct Tally {
     codes: [[u64; 11]; NAMES.len()],
     rules: [u64; 9],
+    misses: Misses,
 }
 
 /// One group at work.
@@ -25,13 +27,16 @@ pub struct Run<'a> {
 pub struct Differs;
 
 impl Run<'_> {
-    /// Compares one call.
+    /// Compares one call, and holds a miss to the list of all keys.
     pub fn call(&mut self, bench: &mut Bench, call: Call) -> Result<Answer, Differs> {
         self.calls += 1;
         match bench.run(call) {
             Ok(answer) => {
                 self.tally.count(call, answer[0] as usize);
-                Ok(answer)
+                match self.tally.misses.look(call, bench.words(), &answer) {
+                    None => Ok(answer),
+                    Some(fault) => Err(self.fault(bench.words(), &fault)),
+                }
             }
             Err(found) => {
                 show(&shrink(*found));
@@ -66,7 +71,7 @@ impl Tally {
         }
     }
 
-    /// The codes that a call can give, and the rules, that no comparison has seen.
+    /// The codes that a call can give, the rules, and the kinds of misses, that no comparison has seen.
     pub fn unseen(&self) -> Vec<String> {
         let mut missing = Vec::new();
         for (name, codes) in CODES.iter().enumerate() {
@@ -75,10 +80,11 @@ impl Tally {
             }
         }
         missing.extend((1..=8).filter(|&rule| self.rules[rule] == 0).map(|rule| format!("rule {rule} fired")));
+        missing.extend(self.misses.unseen());
         missing
     }
 
-    /// How often each call gave each code, one call a line, then how often each rule was fired.
+    /// How often each call gave each code, one call a line, then how often each rule was fired, then the misses.
     pub fn show(&self) {
         let row = |name: &str, counts: &[u64]| {
             println!("{name:<8}{}", counts.iter().map(|count| format!("{count:>9}")).collect::<String>())
@@ -89,5 +95,6 @@ impl Tally {
         }
         row("rule", &[1, 2, 3, 4, 5, 6, 7, 8]);
         row("fired", &self.rules[1..]);
+        self.misses.show();
     }
 }

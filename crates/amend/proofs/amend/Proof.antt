@@ -17,8 +17,14 @@ returns c =
     carried (amended _ _ _) (b .before .before .plan-amend .ensures .is) (b .why .given .1) (c .refuse .ensures, refl)
 
 returns-2 : tie.Need-returns-2
-unfolding amendOf
+unfolding amendOf amended
 returns-2 c =
+    let b = c .before .before in
+    carried (amended _ _ _) (b .before .before .plan-amend .ensures .is) (b .passed .given .1) (c .absent .ensures, refl)
+
+returns-3 : tie.Need-returns-3
+unfolding amendOf
+returns-3 c =
     let b = c .before .before .before .before .before in
     carried (amended _ _ _) (b .before .before .plan-amend .ensures .is) (b .slot .given .1)
     (c .before .before .change-record .ensures)
@@ -27,4 +33,5 @@ pub amend-spec : {M : Type 1} → statement M
 amend-spec =
     tie.close
     (tie.spec (λ c κs. search needs) (λ c. search needs) (λ c κs. search needs) (λ c. search needs)
-    change-record-requires (λ c. search needs) returns (λ c. search needs) returns-2)
+    (λ c κs. search needs) (λ c. search needs) change-record-requires (λ c. search needs) returns (λ c. search needs)
+    returns-2 (λ c. search needs) returns-3)

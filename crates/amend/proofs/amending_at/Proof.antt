@@ -16,16 +16,16 @@ returns c = record { is = simp (c .enum-told .given .1); can = tt }
 
 returns-2 : tie.Need-returns-2
 unfolding amendingAt
-returns-2 c = record { is = simp (c .enum-told2 .given .1); can = tt }
+returns-2 c = record { is = simp (c .before .w .given .1); can = tt }
 
 returns-3 : tie.Need-returns-3
 unfolding amendingAt
 returns-3 c =
     let b = c .before .before .before in
     let s = b .before .before .before in
-    let i = rw (b .w .given .1) at (s .pre .1) in
+    let i = rw (b .w2 .given .1) at (s .pre .1) in
     record {
-      is = simp (b .w .given .1, sym (c .before .change .ensures), lt-ltb _ _ (c .if1 .taken));
+      is = simp (b .w2 .given .1, sym (c .before .change .ensures), lt-ltb _ _ (c .if1 .taken));
       can = record {
         placed = record { slots = s .args .c; ready = s .pre .0; first = i .0; last = i .1 };
         change = omega arith;
@@ -36,7 +36,7 @@ returns-4 : tie.Need-returns-4
 unfolding amendingAt
 returns-4 c =
     record {
-      is = simp (c .before .before .before .w .given .1, sym (c .before .change .ensures), le-ltb _ _ (c .if1 .left));
+      is = simp (c .before .before .before .w2 .given .1, sym (c .before .change .ensures), le-ltb _ _ (c .if1 .left));
       can = tt;
     }
 

@@ -28,7 +28,7 @@ use Rattle.scope.specs.declared.outcome.Taken.the-variants.{Got, Not}
 use Rattle.scope.specs.declared.outcome.Nodes.{Nodes}
 use Rattle.scope.specs.declared.outcome.Firing.{Firing}
 use Rattle.scope.specs.declared.outcome.Firing.the-variants as firing
-use Rattle.demands.specs.Listed.{codesListed, among, Answered, accepts, refuses}
+use Rattle.demands.specs.Listed.{codesBare, among, Answered, accepts, refuses}
 use Rattle.demands.proofs.First.Refusals.{either}
 
 -- fire: its slots, its guard and its limit
@@ -43,7 +43,7 @@ data FiresListed (listed : List ℕ) : Firing → Type 0 where
 
 module _ (t : List ℕ) (rule holder side : ℕ) where
   abbrev listed : List ℕ
-  listed = codesListed (Fire rule holder side)
+  listed = codesBare (Fire rule holder side)
 
   takes : (c k a b e : ℕ) → Takes (takeOf t c k a b e)
   unfolding takeOf
@@ -96,11 +96,11 @@ module _ (t : List ℕ) (rule holder side : ℕ) where
   planned Outside = not-fire WrongLength refl
   planned (Within s) = named (s .count) (ruleOf rule) (linkOf (s .count) holder side)
 
-  ends : (f : Firing) → FiresListed listed f → Answered listed t (fired t f)
+  ends : (f : Firing) → FiresListed listed f → Answered (Fire rule holder side) t (fired t f)
   unfolding fired
   ends f (not-fire why e) = refuses why e
   ends f fires = accepts refl
 
-  pub fire-answered : Answered listed t (fireOf t rule holder side)
+  pub fire-answered : Answered (Fire rule holder side) t (fireOf t rule holder side)
   unfolding fireOf firePlan
   fire-answered = ends _ (planned (slotsIn (length t)))

@@ -7,38 +7,45 @@ use mathlib.Core.List.{List}
 use native.Mathlib.Omega.{arith}
 use lib.ListN.{set, length, length-set}
 use lib.Seq.{getD-set-same}
-use lib.Dec.{ltb}
+use lib.Dec.{eqb, ltb}
 use Rattle.scope.proofs.Bools.{by-bool}
 use Rattle.scope.specs.Numbers.{rootLink, lastChange}
 use Rattle.scope.specs.Table.{word, changeWord, slotAt, withSlot, written}
 use Rattle.scope.specs.Tree.{Batch, Tree}
 use Rattle.scope.specs.Sound.{treeIn}
-use Rattle.scope.specs.Answers.{refused}
+use Rattle.scope.specs.Answers.{codeOf, absence, refused, missed}
+use Rattle.scope.specs.Walk.{nonePassed}
 use Rattle.scope.specs.Fit.{recordOk}
 use Rattle.scope.specs.Amend.{withPieces, amendingAt, amendPlan, amended, amendOf}
 use Rattle.scope.specs.declared.answer.Refusal.{Refusal}
-use Rattle.scope.specs.declared.answer.Refusal.the-variants.{OutOfRange, KeyAbsent, LastChange}
+use Rattle.scope.specs.declared.answer.Refusal.the-variants.{OutOfRange, LastChange}
 use Rattle.scope.specs.declared.side.Link.{Link}
 use Rattle.spelling.specs.Ready.{Sized}
 use Rattle.spelling.specs.Whole.{Whole}
 use Rattle.spelling.proofs.Spell.{tree-in}
 use Rattle.bridge.specs.Leads.{linkAlong}
-use Rattle.tree.specs.Seek.{seek, route, visits, sought}
+use Rattle.tree.specs.Seek.{seek, route, visits, passedTo, sought}
 use Rattle.bridge.specs.Settled.{Spelled}
 use Rattle.tree.proofs.Keys.Keyed.{amendedTree}
 use Rattle.bridge.proofs.Links.Settles.{amended-whole}
 use Rattle.ledger.specs.Entries.{replace}
-use Rattle.ledger.specs.Ledger.{Ledger, entry, kept, entered, onEntry, amendIn}
+use Rattle.ledger.specs.Ledger.{Ledger, neighbours, entry, kept, lacking, entered, onEntry, amendIn}
 use Rattle.demands.specs.Ledgers.{ledgerOf, AsLedger}
 use Rattle.ledger.specs.OfTree.{entriesOf}
 use Rattle.demands.proofs.Open.{header-gate, walk-tree}
 use Rattle.ledger.proofs.Entries.{mapEntry, amended-entries}
-use Rattle.demands.proofs.Second.Answers.{lookup-is}
+use Rattle.demands.proofs.Second.Answers.{near-is, lookup-is}
 
 -- a refusal leaves both as they were
 pub both-refuse : {t : List ℕ} {c : ℕ} → Whole t c → (why : Refusal)
     → AsLedger (refused t why) c (kept (ledgerOf t c) why)
-both-refuse w why = record { answer = refl; whole = w; ledger = refl }
+both-refuse w why =
+    record { answer = by-bool (eqb (codeOf why) 0) (λ p. rw p refl) (λ p. rw p refl); whole = w; ledger = refl }
+
+-- and so does a key that is absent, with its neighbours
+pub both-lack : {t : List ℕ} {c : ℕ} (w : Whole t c) (key : ℕ) → seek key (w .sound .tree) ≡ none
+    → AsLedger (missed t (passedTo key (w .sound .tree) nonePassed)) c (lacking key (ledgerOf t c))
+both-lack w key e = record { answer = ap absence (near-is w key e); whole = w; ledger = refl }
 
 module _ {t : List ℕ} {c : ℕ} (w : Whole t c) (key pieces state : ℕ) (ok : recordOk key pieces state ≡ true) where
   abbrev T : Tree
@@ -77,10 +84,10 @@ module _ {t : List ℕ} {c : ℕ} (w : Whole t c) (key pieces state : ℕ) (ok :
     ledger-after = rw (entries-after, change-after) refl
 
   walked : (o : Option Batch) (l : Link) (n : ℕ) → seek key T ≡ o
-      → AsLedger (amended t pieces state (amendingAt t (sought o l n))) c
-      (onEntry (mapEntry o) (kept L KeyAbsent) (entered L (replace (entry key pieces state) (L .entries))))
+      → AsLedger (amended t pieces state (amendingAt t (sought o l (passedTo key T nonePassed) n))) c
+      (onEntry (mapEntry o) (lacking key L) (entered L (replace (entry key pieces state) (L .entries))))
   unfolding amended amendingAt
-  walked none l n e = both-refuse w KeyAbsent
+  walked none l n e = both-lack w key e
   walked (some d) l n e =
       by-bool (ltb (word t changeWord) lastChange)
       (λ q. rw q (record {

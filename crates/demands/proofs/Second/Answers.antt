@@ -11,7 +11,8 @@ use Rattle.scope.specs.Numbers.{rootLink}
 use Rattle.scope.specs.Table.{word, rootWord, changeWord, slotAt}
 use Rattle.scope.specs.Tree.{Batch, Tree, leaf, node, inOrder}
 use Rattle.scope.specs.Sound.{Spells, batchAt, treeIn}
-use Rattle.scope.specs.Answers.{refusal, accepted}
+use Rattle.scope.specs.Answers.{refusal, absence, accepted}
+use Rattle.scope.specs.Walk.{nonePassed}
 use Rattle.scope.specs.Find.{foundIn, findAnswer}
 use Rattle.scope.specs.Sums.{pick, rankOf, ranked, rankAnswer, totalAnswer}
 use Rattle.scope.specs.declared.answer.Refusal.the-variants.{KeyAbsent}
@@ -19,13 +20,14 @@ use Rattle.scope.specs.declared.side.Link.{Link}
 use Rattle.spelling.specs.Whole.{Whole}
 use Rattle.spelling.proofs.Spell.{tree-in}
 use Rattle.bridge.specs.Leads.{linkAlong}
-use Rattle.tree.specs.Seek.{seek, route, visits, sought}
+use Rattle.tree.specs.Seek.{seek, route, visits, passedTo, sought}
 use Rattle.ledger.specs.Entries.{lookup}
-use Rattle.ledger.specs.Ledger.{foundEntry, findIn, rankIn, totalIn}
+use Rattle.ledger.specs.Ledger.{neighbours, foundEntry, findIn, rankIn, totalIn}
 use Rattle.demands.specs.Ledgers.{ledgerOf, noVisits, noSlot}
 use Rattle.ledger.specs.OfTree.{entryOf}
 use Rattle.demands.proofs.Open.{header-gate, sound-gate, walk-tree}
 use Rattle.ledger.proofs.Entries.{mapEntry, seek-lookup, total-sum}
+use Rattle.ledger.proofs.Passing.{passed-neighbours}
 
 -- what a search finds stands in its slot
 pub seek-slot : (t : List ℕ) (c key x : ℕ) (T : Tree) → Spells t c x T → (d : Batch) → seek key T ≡ some d
@@ -44,10 +46,15 @@ module _ {t : List ℕ} {c : ℕ} (w : Whole t c) where
   abbrev T : Tree
   T = w .sound .tree
 
+  -- the last keys passed on the way to an absent key are its neighbours in the ledger
+  pub near-is : (key : ℕ) → seek key T ≡ none → passedTo key T nonePassed ≡ neighbours key (ledgerOf t c .entries)
+  near-is key e = rw (tree-in t c (w .sound)) (passed-neighbours key T (w .sound .order) e)
+
   found-is : (key : ℕ) (o : Option Batch) (l : Link) (n : ℕ) → seek key T ≡ o
-      → noVisits (foundIn t (sought o l n)) ≡ foundEntry (word t changeWord) (mapEntry o)
+      → noVisits (foundIn t (sought o l (passedTo key T nonePassed) n))
+      ≡ foundEntry (word t changeWord) (neighbours key (ledgerOf t c .entries)) (mapEntry o)
   unfolding foundIn
-  found-is key none l n e = refl
+  found-is key none l n e = ap absence (near-is key e)
   found-is key (some d) l n e =
       let at = seek-slot t c key (word t rootWord) T (w .sound .reached) d e in
       let pieces : slotAt t (d .slot) .pieces ≡ d .pieces = ap (λ (b : Batch). b .pieces) (sym at) in
@@ -66,7 +73,7 @@ module _ {t : List ℕ} {c : ℕ} (w : Whole t c) where
       (λ e. rw e refl)
       (λ e. rw (e, walk-tree w key)
       (found-is key (seek key T) (linkAlong t (route key T) rootLink) (visits key T) refl
-      ∙ ap (foundEntry (word t changeWord)) (lookup-is key))))
+      ∙ ap (foundEntry (word t changeWord) (neighbours key (ledgerOf t c .entries))) (lookup-is key))))
 
   -- TOTAL
   pub total-ledger : (K : ℕ) → totalAnswer t K ≡ totalIn K (ledgerOf t c)

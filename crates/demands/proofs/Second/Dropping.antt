@@ -13,24 +13,25 @@ use Rattle.scope.specs.Table.{word, countWord, changeWord}
 use Rattle.scope.specs.Tree.{Batch, Tree}
 use Rattle.scope.specs.Sound.{treeIn}
 use Rattle.scope.specs.Answers.{accepted}
+use Rattle.scope.specs.Walk.{nonePassed}
 use Rattle.scope.specs.Drop.{counted, ifMay, droppingAt, dropPlan, dropped, dropOf}
-use Rattle.scope.specs.declared.answer.Refusal.the-variants.{OutOfRange, KeyAbsent, LastChange}
+use Rattle.scope.specs.declared.answer.Refusal.the-variants.{OutOfRange, LastChange}
 use Rattle.scope.specs.declared.outcome.Dropping.{Dropping}
 use Rattle.scope.specs.declared.side.Link.{Link}
 use Rattle.spelling.specs.Whole.{Whole}
 use Rattle.spelling.proofs.Spell.{tree-in}
 use Rattle.bridge.specs.Leads.{linkAlong}
-use Rattle.tree.specs.Seek.{seek, route, visits, sought, endOf}
+use Rattle.tree.specs.Seek.{seek, route, visits, passedTo, sought, endOf}
 use Rattle.bridge.specs.Planned.{Freed, Plans, lifts, moves}
 use Rattle.bridge.proofs.Records.Dropped.{drop-planned, some-record, dropped-whole, dropped-sized, dropped-change}
 use Rattle.ledger.specs.Entries.{Entry, remove}
-use Rattle.ledger.specs.Ledger.{Ledger, Entered, kept, entered, onEntry, dropIn}
+use Rattle.ledger.specs.Ledger.{Ledger, Entered, lacking, entered, onEntry, dropIn}
 use Rattle.demands.specs.Ledgers.{ledgerOf, AsLedger}
 use Rattle.ledger.specs.OfTree.{entriesOf}
 use Rattle.demands.proofs.Open.{header-gate, walk-tree}
 use Rattle.ledger.proofs.Entries.{mapEntry, without-entries}
 use Rattle.demands.proofs.Second.Answers.{lookup-is}
-use Rattle.demands.proofs.Second.Amending.{both-refuse}
+use Rattle.demands.proofs.Second.Amending.{both-refuse, both-lack}
 
 module _ {t : List ℕ} {c : ℕ} (w : Whole t c) (key : ℕ) where
   abbrev T : Tree
@@ -81,10 +82,10 @@ module _ {t : List ℕ} {c : ℕ} (w : Whole t c) (key : ℕ) where
         (λ q. rw q (unfold dropped in both-refuse w LastChange)))
 
   walked : (o : Option Batch) → seek key T ≡ o
-      → AsLedger (dropped t (droppingAt t c (sought o l (visits key T)))) c
-      (onEntry (mapEntry o) (kept L KeyAbsent) (entered L removed))
+      → AsLedger (dropped t (droppingAt t c (sought o l (passedTo key T nonePassed) (visits key T)))) c
+      (onEntry (mapEntry o) (lacking key L) (entered L removed))
   unfolding droppingAt
-  walked none e = unfold dropped in both-refuse w KeyAbsent
+  walked none e = unfold dropped in both-lack w key e
   walked (some d) e =
       let p = drop-planned w key d e in
       rw (p .is) (may d e (p .plan) (p .plans))

@@ -23,7 +23,7 @@ use Rattle.demands.specs.Fires.{Trial, triedOn, Accepted}
 use Rattle.demands.specs.Firing.{Enabled}
 use Rattle.demands.specs.Ledgers.{ledgerOf}
 use Rattle.demands.proofs.Open.{gate-is}
-use Rattle.demands.proofs.First.Listed.{refused-is}
+use Rattle.demands.proofs.First.Listed.{refused-words}
 use Rattle.demands.proofs.Second.Exact.{fire-exact}
 
 -- sound again, and the same ledger
@@ -41,7 +41,7 @@ fares {t} w x =
     let f = fire-exact w x in
     elim (ℕ-discrete (triedOn t x .answer .code) 0) [
       | yes z ↦ let e = f .accepts .only-if z in acted e z (f .acts e)
-      | no ne ↦ unmoved ne (refused-is (Fire (x .rule) (x .holder) (x .side)) t ne .words)
+      | no ne ↦ unmoved ne (refused-words (Fire (x .rule) (x .holder) (x .side)) t ne)
     ]
 
 same : {t : List ℕ} {c : ℕ} → Whole t c → (x : Trial) → Fares t c x → SameLedger t c (triedOn t x)

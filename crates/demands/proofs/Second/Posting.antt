@@ -16,11 +16,13 @@ use Rattle.scope.specs.Sound.{treeIn}
 use Rattle.scope.specs.Fit.{recordOk}
 use Rattle.scope.specs.Post.{freeSlot, hangAt, postingAt, postPlan, leafSlot, posted, postOf}
 use Rattle.scope.specs.declared.answer.Refusal.the-variants.{OutOfRange, KeyPresent, NoFreeSlot, LastChange}
+use Rattle.scope.specs.declared.outcome.Passed.{Passed}
 use Rattle.scope.specs.declared.side.Link.{Link}
+use Rattle.scope.specs.Walk.{nonePassed}
 use Rattle.spelling.specs.Whole.{Whole}
 use Rattle.spelling.proofs.Spell.{tree-in}
 use Rattle.bridge.specs.Leads.{linkAlong}
-use Rattle.tree.specs.Seek.{seek, route, visits, sought}
+use Rattle.tree.specs.Seek.{seek, route, visits, passedTo, sought}
 use Rattle.bridge.proofs.Records.Free.{FreeIs, free, full, free-slot, unreached, room-left, no-room}
 use Rattle.bridge.proofs.Records.Posts.{posted-whole, posted-sized, posted-change}
 use Rattle.ledger.specs.Entries.{Entry, insert}
@@ -82,12 +84,12 @@ module _ {t : List ℕ} {c : ℕ} (w : Whole t c) (key pieces state : ℕ) (ok :
         }))
         (λ q. rw q (both-refuse w LastChange)))
 
-  walked : (o : Option Batch) → seek key T ≡ o → (n : ℕ)
-      → AsLedger (posted t (leafSlot key pieces state) (postingAt t c (sought o (linkAlong t (route key T) rootLink) n))) c
+  walked : (o : Option Batch) → seek key T ≡ o → (p : Passed) (n : ℕ)
+      → AsLedger (posted t (leafSlot key pieces state) (postingAt t c (sought o (linkAlong t (route key T) rootLink) p n))) c
       (onEntry (mapEntry o) (cond (ltb (length (L .entries)) c) (entered L inserted) (kept L NoFreeSlot)) (kept L KeyPresent))
   unfolding posted postingAt
-  walked none e n = hangs e (freeSlot t c) (free-slot t c)
-  walked (some d) e n = both-refuse w KeyPresent
+  walked none e p n = hangs e (freeSlot t c) (free-slot t c)
+  walked (some d) e p n = both-refuse w KeyPresent
 
 -- POST, its slot apart
 pub post-ledger : {t : List ℕ} {c : ℕ} → Whole t c → (key pieces state : ℕ)
@@ -97,5 +99,5 @@ post-ledger {t} {c} w key pieces state =
     rw (header-gate w (recordOk key pieces state))
     (by-bool (recordOk key pieces state)
     (λ ok. rw (ok, ← lookup-is w key, walk-tree w key)
-    (walked w key pieces state ok (seek key (w .sound .tree)) refl (visits key (w .sound .tree))))
+    (walked w key pieces state ok (seek key (w .sound .tree)) refl (passedTo key (w .sound .tree) nonePassed) (visits key (w .sound .tree))))
     (λ no-ok. rw no-ok (both-refuse w OutOfRange)))

@@ -6,31 +6,31 @@ use native.Mathlib.Omega.{arith}
 use lib.Dec.{ltb}
 use borrow.Author.Tests.{ltb-true, lt-ltb}
 use Rattle.scope.proofs.Bools.{and-l, and-r, both}
-use Rattle.scope.specs.Tree.{Tree, leaf, node, below, above, ordered, Below, Above, Ordered}
+use Rattle.scope.specs.Tree.{Tree, leaf, node, allBelow, allAbove, ordered, Below, Above, Ordered}
 use Rattle.tree.specs.Between.{Between}
 
 -- the tests pass exactly where the statements hold
-pub below-says : (b : ℕ) (T : Tree) → below b T ≡ true → Below b T
-unfolding below Below
+pub below-says : (b : ℕ) (T : Tree) → allBelow b T ≡ true → Below b T
+unfolding allBelow Below
 below-says b leaf e = tt
 below-says b (node d h g l r) e =
-    let q = and-r (ltb (d .key) b) (below b l && below b r) e in
-    (ltb-true _ _ (and-l _ _ e), below-says b l (and-l _ _ q), below-says b r (and-r (below b l) _ q))
+    let q = and-r (ltb (d .key) b) (allBelow b l && allBelow b r) e in
+    (ltb-true _ _ (and-l _ _ e), below-says b l (and-l _ _ q), below-says b r (and-r (allBelow b l) _ q))
 
-pub below-test : (b : ℕ) (T : Tree) → Below b T → below b T ≡ true
-unfolding below Below
+pub below-test : (b : ℕ) (T : Tree) → Below b T → allBelow b T ≡ true
+unfolding allBelow Below
 below-test b leaf p = refl
 below-test b (node d h g l r) p = both (lt-ltb _ _ (p .0)) (both (below-test b l (p .1)) (below-test b r (p .2)))
 
-pub above-says : (b : ℕ) (T : Tree) → above b T ≡ true → Above b T
-unfolding above Above
+pub above-says : (b : ℕ) (T : Tree) → allAbove b T ≡ true → Above b T
+unfolding allAbove Above
 above-says b leaf e = tt
 above-says b (node d h g l r) e =
-    let q = and-r (ltb b (d .key)) (above b l && above b r) e in
-    (ltb-true _ _ (and-l _ _ e), above-says b l (and-l _ _ q), above-says b r (and-r (above b l) _ q))
+    let q = and-r (ltb b (d .key)) (allAbove b l && allAbove b r) e in
+    (ltb-true _ _ (and-l _ _ e), above-says b l (and-l _ _ q), above-says b r (and-r (allAbove b l) _ q))
 
-pub above-test : (b : ℕ) (T : Tree) → Above b T → above b T ≡ true
-unfolding above Above
+pub above-test : (b : ℕ) (T : Tree) → Above b T → allAbove b T ≡ true
+unfolding allAbove Above
 above-test b leaf p = refl
 above-test b (node d h g l r) p = both (lt-ltb _ _ (p .0)) (both (above-test b l (p .1)) (above-test b r (p .2)))
 
@@ -38,10 +38,10 @@ pub ordered-says : (T : Tree) → ordered T ≡ true → Ordered T
 unfolding ordered Ordered
 ordered-says leaf e = tt
 ordered-says (node d h g l r) e =
-    let p = and-l (below (d .key) l && above (d .key) r) (ordered l && ordered r) e in
-    let q = and-r (below (d .key) l && above (d .key) r) (ordered l && ordered r) e in (
+    let p = and-l (allBelow (d .key) l && allAbove (d .key) r) (ordered l && ordered r) e in
+    let q = and-r (allBelow (d .key) l && allAbove (d .key) r) (ordered l && ordered r) e in (
       below-says _ l (and-l _ _ p),
-      above-says _ r (and-r (below (d .key) l) _ p),
+      above-says _ r (and-r (allBelow (d .key) l) _ p),
       ordered-says l (and-l _ _ q),
       ordered-says r (and-r (ordered l) _ q),
     )

@@ -12,7 +12,7 @@ enum-told c = search needs
 slot-at-requires : tie.Need-slot-at-requires
 slot-at-requires c κs =
     let b = c .before in
-    let i = rw (b .w .given .1) at (b .before .before .before .pre .1) in
+    let i = rw (b .w2 .given .1) at (b .before .before .before .pre .1) in
     record { first = omega arith; whole = omega arith }
 
 returns : tie.Need-returns
@@ -21,14 +21,14 @@ returns c = simp (c .before .enum-told .given .1, sym (c .refuse .ensures))
 
 returns-2 : tie.Need-returns-2
 unfolding foundIn
-returns-2 c = simp (c .before .enum-told2 .given .1, sym (c .refuse2 .ensures))
+returns-2 c = simp (c .before .before .w .given .1, sym (c .absent .ensures))
 
 returns-3 : tie.Need-returns-3
 unfolding foundIn
 returns-3 c =
     let l = c .before .before .before .before in
     simp (
-      l .before .before .before .before .w .given .1,
+      l .before .before .before .before .w2 .given .1,
       sym (l .before .before .slot-at .ensures),
       sym (l .before .change .ensures),
       sym (l .long .ensures),
