@@ -2,3 +2,4 @@
 pub mod Refusals
 pub mod FireRefusals
 pub mod Listed
+pub mod Before
