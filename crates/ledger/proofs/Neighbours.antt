@@ -30,6 +30,12 @@ found-here : (x : Entry) (xs : List Entry) → lookup (x .key) (x ∷ xs) ≡ so
 unfolding lookup
 found-here x xs = rw (eq-eqb (x .key) (x .key) refl) refl
 
+-- a record that is not on a side changes nothing there
+side-past : (side : ℕ → Type 0) (x : Entry) (xs : List Entry) (stamp : ℕ) → (side (x .key) → ⊥)
+    → OnSide xs side stamp → OnSide (x ∷ xs) side stamp
+side-past side x xs stamp off (there e q j) = there e (found-past stamp x e xs (λ z. off (rw z at j)) q) j
+side-past side x xs stamp off (nowhere z h) = nowhere z (off, h)
+
 module _ (key : ℕ) where
   smaller-there : (es : List Entry) → Sorted es → OnSide es (λ stamp. stamp < key) (below key es)
   unfolding below
@@ -37,7 +43,8 @@ module _ (key : ℕ) where
   smaller-there (x ∷ xs) s =
       by-bool (ltb (x .key) key)
       (λ p. rw p (grows (ltb-true (x .key) key p) (smaller-there xs (s .1))))
-      (λ p. rw p (stays (ltb-false (x .key) key p) (smaller-there xs (s .1))))
+      (λ p. rw p (side-past (λ stamp. stamp < key) x xs (below key xs) (λ i. omega (arith, ltb-false (x .key) key p))
+      (smaller-there xs (s .1))))
     where
       grows : x .key < key → OnSide xs (λ stamp. stamp < key) (below key xs)
           → OnSide (x ∷ xs) (λ stamp. stamp < key) (max (x .key) (below key xs))
@@ -48,23 +55,14 @@ module _ (key : ℕ) where
           let same : max (x .key) (below key xs) ≡ x .key = omega (arith, z) in
           rw same (there x (found-here x xs) i)
 
-      stays : key ≤ x .key → OnSide xs (λ stamp. stamp < key) (below key xs)
-          → OnSide (x ∷ xs) (λ stamp. stamp < key) (below key xs)
-      stays i (there e q j) = there e (found-past (below key xs) x e xs (λ z. omega arith) q) j
-      stays i (nowhere z h) = nowhere z ((λ j. omega arith), h)
-
   larger-there : (es : List Entry) → OnSide es (λ stamp. key < stamp) (above key es)
   unfolding above
   larger-there [] = nowhere refl tt
   larger-there (x ∷ xs) =
       by-bool (ltb key (x .key))
       (λ p. rw p (there x (found-here x xs) (ltb-true key (x .key) p)))
-      (λ p. rw p (past (ltb-false key (x .key) p) (larger-there xs)))
-    where
-      past : x .key ≤ key → OnSide xs (λ stamp. key < stamp) (above key xs)
-          → OnSide (x ∷ xs) (λ stamp. key < stamp) (above key xs)
-      past i (there e q j) = there e (found-past (above key xs) x e xs (λ z. omega arith) q) j
-      past i (nowhere z h) = nowhere z ((λ j. omega arith), h)
+      (λ p. rw p (side-past (λ stamp. key < stamp) x xs (above key xs) (λ i. omega (arith, ltb-false key (x .key) p))
+      (larger-there xs)))
 
   -- the smaller ones go up to the one, the larger ones begin with the other, and none is the key itself
   smaller-most : (es : List Entry) → EachStamp (λ stamp. stamp < key → stamp ≤ below key es) es

@@ -37,7 +37,8 @@ damage =
     ∷ row (codes (Rank 0 ∷ Find 0 ∷ Drop 0 ∷ []) torn) (replicate 3 2)
     ∷ row (codes (Find 40 ∷ Post 50 1 1 ∷ Amend 40 1 1 ∷ Drop 40 ∷ Fire 1 0 0 ∷ []) torn) (replicate 5 3)
     -- find: the ring is walked until the slots are spent; what lies on the way is found
-    ∷ row (fives (Find 40 ∷ Find 30 ∷ Find 50 ∷ []) ring) (0 ∷ 6 ∷ 9 ∷ 1 ∷ 1 ∷ 3 ∷ 0 ∷ 0 ∷ 0 ∷ 0 ∷ 5 ∷ 0 ∷ 40 ∷ 0 ∷ 0 ∷ [])
+    ∷ row (fives (Find 40 ∷ Find 30 ∷ Find 50 ∷ []) ring)
+    (0 ∷ 6 ∷ 9 ∷ 1 ∷ 1 ∷ 3 ∷ 0 ∷ 0 ∷ 0 ∷ 0 ∷ 5 ∷ 0 ∷ 40 ∷ 0 ∷ 0 ∷ [])
     ∷ row (codes (Find 40 ∷ Find 20 ∷ Find 30 ∷ []) unfit) (0 ∷ 3 ∷ 3 ∷ [])
     -- post: a free slot that is not blank, a count that is already full, no free slot whatever the count
     ∷ row (codes (Post 50 1 1 ∷ []) (stale 1 0)) (0 ∷ [])

@@ -2,7 +2,7 @@
 -- The calls of before are kept here for this comparison alone: those of now, over a walk that notes no keys. Assumes nothing.
 use Prim.Native.Nat.{ℕ, zero, suc, _+_, _-_}
 use mathlib.Core.Path.{_≡_, refl, _∙_, ap}
-use mathlib.Core.Bool.{Bool, cond, not}
+use mathlib.Core.Bool.{cond, not}
 use mathlib.Core.List.{List}
 use lib.Dec.{eqb, ltb}
 use borrow.Author.Tests.{eqb-true}
@@ -18,7 +18,7 @@ use Rattle.scope.specs.Amend.{amending, amendingAt, amendPlan, amended, amendOf
 use Rattle.scope.specs.Drop.{leftmostFrom, ifMay, replacing, dropAt, droppingAt, dropping, dropPlan, dropped, dropOf}
 use Rattle.scope.specs.declared.answer.Answer.{Answer}
 use Rattle.scope.specs.declared.answer.Refusal.{Refusal}
-use Rattle.scope.specs.declared.answer.Refusal.the-variants.{KeyAbsent, LastChange}
+use Rattle.scope.specs.declared.answer.Refusal.the-variants.{KeyAbsent}
 use Rattle.scope.specs.declared.answer.Gate.{Gate}
 use Rattle.scope.specs.declared.answer.Gate.the-variants.{Shut, Open}
 use Rattle.scope.specs.declared.side.Side.{Side}
