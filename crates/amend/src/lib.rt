@@ -1,4 +1,6 @@
 // amend: other pieces and another state for a record that is there.
+#![tactic(auto)]
+
 ghost use Rattle.scope.specs.Amend.{amending_at, amend_plan, amended};
 ghost use Rattle.scope.specs.Calls.{Amend, Promise};
 ghost use Rattle.scope.specs.declared.outcome.Amending.TheVariants.{Change};

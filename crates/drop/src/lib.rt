@@ -1,4 +1,6 @@
 // Carrying a drop out, in the stated order of writing.
+#![tactic(auto)]
+
 ghost use Rattle.std.specs.Prelude.{◌≡◌, ◌-◌, ◌≤◌, ◌<◌};
 ghost use Rattle.scope.specs.Numbers.{last_change, most_slots};
 ghost use Rattle.scope.specs.Table.{slot_at, with_slot, InTable};

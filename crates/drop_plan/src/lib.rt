@@ -1,4 +1,6 @@
 // What a drop is to do: read and tested before anything is written.
+#![tactic(auto)]
+
 ghost use Rattle.std.specs.Prelude.{◌≤◌};
 ghost use Rattle.scope.specs.Drop.{leftmost_from, if_may, replacing, drop_at, dropping_at, drop_plan};
 ghost use Rattle.spelling.specs.Ready.{Headed, Ready};

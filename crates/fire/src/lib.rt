@@ -1,4 +1,6 @@
 // The call fire: the raw numbers tested, the firing aimed, its action written.
+#![tactic(auto)]
+
 ghost use Rattle.std.specs.Prelude.{◌≤◌};
 ghost use Rattle.scope.specs.Fire.{aimed, on_rule, on_link};
 ghost use Rattle.scope.specs.Calls.{Fire, Promise};

@@ -1,4 +1,6 @@
 // The actions of the eight rules: the words that a firing writes, one by one.
+#![tactic(auto)]
+
 pub mod action;
 pub mod put;
 

@@ -1,4 +1,6 @@
 // From a link to a firing: its nodes in turn, each tested, then the guard and the height limit.
+#![tactic(auto)]
+
 ghost use Rattle.std.specs.Prelude.{◌≡◌, ◌≤◌, leb};
 ghost use Rattle.scope.specs.Table.{son};
 ghost use Rattle.scope.specs.Numbers.{other, most_height};

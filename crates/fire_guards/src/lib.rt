@@ -1,4 +1,6 @@
 // The guards of the rules, and the heights that they lead to, over registers as a rule sees them.
+#![tactic(auto)]
+
 ghost use Rattle.std.specs.Prelude.{◌≡◌, cond, max};
 ghost use Rattle.scope.specs.Tree.{over};
 ghost use Rattle.scope.specs.Rules.{seen, localh, reliable, heavy, guard, highest};

@@ -1,5 +1,7 @@
 // A slot with its two sons, and what every walk over both subtrees stands on: a tree hangs at a link, and a count of
 // the slots that may still be reached falls at each slot.
+#![tactic(auto)]
+
 ghost use Rattle.std.specs.Prelude.{◌≡◌};
 ghost use Rattle.scope.specs.Table.{InTable};
 ghost use Rattle.fork.specs.Hangs.{fork_at};

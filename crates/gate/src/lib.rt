@@ -1,4 +1,6 @@
 // How a call begins and ends: the tests of header and slot, the numbers of the refusals, the header's numbers written.
+#![tactic(auto)]
+
 pub mod call;
 pub mod ending;
 pub mod tests;

@@ -1,4 +1,6 @@
 // One walk in key order: it hands each record's slot on, into a lent list, and says where the list ends.
+#![tactic(auto)]
+
 ghost use Rattle.std.specs.Prelude.{◌≤◌, length};
 ghost use Rattle.spelling.specs.Whole.{Whole};
 ghost use Rattle.in_order.specs.Listed.{Roomy, Written, InOrder};

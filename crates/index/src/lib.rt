@@ -1,4 +1,6 @@
 // The eleven calls of the table, in one place: whoever uses the library uses this crate.
+#![tactic(auto)]
+
 pub use amend::amend;
 pub use drop::drop;
 pub use fire::fire;

@@ -1,5 +1,7 @@
 // M1 to M4 and M6 of document 01, run over the code: a line is the five numbers of a call, or the words of a table.
 // After a tidy it says the true height too.
+#![tactic(auto)]
+
 use scope::{Answer, Head, Slot};
 
 // The words of tables of three and of four slots.

@@ -1,4 +1,6 @@
 // One mark bit for each slot, packed in 64-bit words.
+#![tactic(auto)]
+
 ghost use Rattle.std.specs.Prelude.{◌≡◌, ◌<◌, eqb, length};
 ghost use Rattle.marks.specs.Marks.{bit_at, Marked, Past};
 

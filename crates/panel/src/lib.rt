@@ -1,4 +1,6 @@
 // The calls for C: each writes its five numbers to `out`.
+#![tactic(auto)]
+
 ghost use Rattle.std.specs.Prelude.{◌≡◌};
 ghost use Rattle.scope.specs.Calls.{Start, Check, Find, Post, Amend, Drop, Rank, Total, Worth, Fire, Tidy};
 ghost use Rattle.panel.specs.Five.{five_of, Gives};

@@ -1,4 +1,6 @@
 // post: a new record in the lowest free slot, hung where its key belongs.
+#![tactic(auto)]
+
 ghost use Rattle.std.specs.Prelude.{◌≡◌, ◌≤◌};
 ghost use Rattle.scope.specs.Post.{hang_at, posting_at, post_plan, leaf_slot, posted};
 ghost use Rattle.scope.specs.Calls.{Post, Promise};

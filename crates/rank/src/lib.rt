@@ -1,4 +1,6 @@
 // rank: the slot of the r-th smallest key, by a walk of both sides that carries what is still wanted.
+#![tactic(auto)]
+
 ghost use Rattle.std.specs.Prelude.{◌≡◌, ◌+◌, ◌≤◌, ◌<◌};
 ghost use Rattle.scope.specs.Sound.{tree_in};
 ghost use Rattle.scope.specs.Sums.{rank_of, ranked};

@@ -1,4 +1,6 @@
 // Document 01 as types; its rules stand beside them, in specs/, as definitions that compute.
+#![tactic(auto)]
+
 pub mod answer;
 pub mod height;
 pub mod outcome;

@@ -1,4 +1,6 @@
 // The soundness check: a scan that marks each slot it reaches, then a pass over the slots that it did not reach.
+#![tactic(auto)]
+
 ghost use Rattle.std.specs.Prelude.{◌≡◌, ◌≤◌};
 ghost use Rattle.scope.specs.Numbers.{most_slots};
 ghost use Rattle.scope.specs.Table.{word, InTable};

@@ -1,4 +1,6 @@
 // One step of `stand`: a line read, carried out on the table and answered in a lent buffer.
+#![tactic(auto)]
+
 ghost use Rattle.std.specs.Prelude.{◌≡◌, ◌+◌, ◌≤◌, length};
 ghost use Rattle.text_print.specs.Put.{PutIn};
 ghost use Rattle.text_list.specs.List.{list_room};

@@ -1,4 +1,6 @@
 // Standard input, read to its end into a buffer.
+#![tactic(auto)]
+
 ghost use Rattle.std.specs.Prelude.{◌≡◌, false, ◌+◌, ◌≤◌, length, take};
 
 use libc::STDIN_FILENO;

@@ -1,4 +1,6 @@
 // A run of `stand`: the lines of an input, answered one after the other on one table.
+#![tactic(auto)]
+
 pub mod run;
 
 ghost use Rattle.std.specs.Prelude.{◌≤◌, ◌<◌, ◌≡◌, length};

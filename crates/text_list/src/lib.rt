@@ -1,4 +1,6 @@
 // What `op=list` prints: the count and the root, and then each record in the order of the keys.
+#![tactic(auto)]
+
 ghost use Rattle.std.specs.Prelude.{◌≡◌, ◌+◌, ◌*◌, ◌≤◌, length};
 ghost use Rattle.spelling.specs.Ready.{Headed};
 ghost use Rattle.spelling.specs.Whole.{Whole};

@@ -1,4 +1,6 @@
 // What `stand` prints: the line of an answer, and the line of a record.
+#![tactic(auto)]
+
 pub mod line;
 pub mod text;
 

@@ -1,4 +1,6 @@
 // tidy: the firings of the stated order, until none is due or the budget is spent.
+#![tactic(auto)]
+
 pub mod call;
 pub mod review;
 pub mod run;

@@ -1,5 +1,7 @@
 // The agenda lists the slots at which a rule may be due: a bit for each slot, and a word above that has a bit for each
 // word in which a slot is listed.
+#![tactic(auto)]
+
 ghost use Rattle.std.specs.Prelude.{◌≡◌, ◌<◌, get_or};
 ghost use Rattle.tidy_agenda.specs.Agenda.{Agenda, Listed, Struck, LowestBit, Lowest};
 

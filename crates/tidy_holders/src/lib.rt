@@ -1,4 +1,6 @@
 // The link that holds each slot, kept in an array beside the table: twice its holder, and one more on the right.
+#![tactic(auto)]
+
 pub mod entry;
 pub mod moves;
 pub mod pass;

@@ -1,4 +1,6 @@
 // What the rules see at a slot: whether any may be due there, whether one is, and its nodes.
+#![tactic(auto)]
+
 pub mod quick;
 pub mod sight;
 

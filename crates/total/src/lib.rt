@@ -1,6 +1,8 @@
 // Sums over a sound table: the true height and the total, each by a walk from the root to both sides of every slot.
 // A walk is two functions, at a slot and at a link, which may be empty. It starts at the root's slot: entered there,
 // the test of a link is compiled into the slot above it, and an empty link costs no call.
+#![tactic(auto)]
+
 ghost use Rattle.std.specs.Prelude.{◌≡◌, ◌+◌, ◌≤◌, ◌<◌};
 ghost use Rattle.scope.specs.Numbers.{most_slots};
 ghost use Rattle.scope.specs.Tree.{over, true_height};

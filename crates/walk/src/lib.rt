@@ -1,4 +1,6 @@
 // The search walk, and the two calls that need nothing else: start and find.
+#![tactic(auto)]
+
 ghost use Rattle.std.specs.Prelude.{◌≡◌, length, replicate};
 ghost use Rattle.scope.specs.Walk.{passing};
 ghost use Rattle.scope.specs.Find.{found_in};

@@ -1,4 +1,6 @@
 // Reading and writing the lent words: the only code that knows where a word stands.
+#![tactic(auto)]
+
 pub mod read;
 pub mod seek;
 pub mod write;

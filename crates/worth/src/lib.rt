@@ -1,4 +1,6 @@
 // The worth of a sound table, by one walk of both sides that counts the slots as it goes.
+#![tactic(auto)]
+
 ghost use Rattle.std.specs.Prelude.{◌≡◌, ◌+◌, ◌-◌, ◌*◌, ◌≤◌, ◌<◌};
 ghost use Rattle.scope.specs.Numbers.{most_slots, most_height};
 ghost use Rattle.scope.specs.Tree.{over};
