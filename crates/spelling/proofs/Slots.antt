@@ -115,4 +115,4 @@ unfolding blank_slot
 blank-son x e =
     let h = two-parts (eqb x.state 0 && eqb x.key 0 && eqb x.pieces 0) (eqb x.left 0) (eqb x.right 0)
     (eqb x.lefth 0) (eqb x.righth 0) (eqb x.last 0) e in
-    λ s. elim s [ Left ↦ eqb-true x.left 0 h.0 | Right ↦ eqb-true x.right 0 h.1 ]
+    λ s. elim s as (λ s. son x s ≡ 0) [ Left ↦ eqb-true x.left 0 h.0 | Right ↦ eqb-true x.right 0 h.1 ]

@@ -45,7 +45,7 @@ kept-part : (o : Side) (p : Part) (k j n : ℕ) (y : Slot) → KeptPart p k j
 kept-part o (son_on s) k j n y a = either (eqb k j)
   where
     either : (b : Bool) → seen o (cond b (with_part (son_on s) n y) y) ≡ seen o y
-    either b = elim b [ true ↦ seen-son o s n y | false ↦ refl ]
+    either b = elim b as (λ b. seen o (cond b (with_part (son_on s) n y) y) ≡ seen o y) [ true ↦ seen-son o s n y | false ↦ refl ]
 kept-part o (register_on s) k j n y a = rw (ne_eqb k j a) refl
 
 pub registers-kept : (o : Side) (k : ℕ) (es : List Edit) (y : Slot) → RegistersKept k es
