@@ -70,7 +70,8 @@ module _ (key : ℕ) where
   smaller-most [] = tt
   smaller-most (x ∷ xs) =
       by_bool (ltb x.key key)
-      (λ p. rw p ((λ i. omega arith), each_map _ _ xs (λ stamp f i. omega (arith, f i)) (smaller-most xs)))
+      (λ p. let e : below key (x ∷ xs) ≡ max x.key (below key xs) = rw p refl in
+      ((λ i. omega (arith, e)), each_map _ _ xs (λ stamp f i. omega (arith, f i, e)) (smaller-most xs)))
       (λ p. rw p ((λ i. omega (arith, ltb-false x.key key p)), smaller-most xs))
 
   larger-least : (es : List Entry) → Sorted es
@@ -80,8 +81,12 @@ module _ (key : ℕ) where
   larger-least (x ∷ xs) s =
       by_bool (ltb key x.key)
       (λ p. let i = ltb-true key x.key p in
-      rw p ((λ j. (omega arith, omega arith)), each_map _ _ xs (λ stamp l j. (omega arith, omega (arith, l))) s.0))
-      (λ p. rw p ((λ i. absurd (omega (arith, ltb-false key x.key p))), larger-least xs s.1))
+      let e : above key (x ∷ xs) ≡ x.key = rw p refl in
+      ((λ j. (omega (arith, e), omega (arith, e))), each_map _ _ xs (λ stamp l j. (omega (arith, e), omega (arith, l, e))) s.0))
+      (λ p. let e : above key (x ∷ xs) ≡ above key xs = rw p refl in (
+        (λ i. absurd (omega (arith, ltb-false key x.key p))),
+        each_map _ _ xs (λ stamp f i. (omega (arith, (f i).0, e), omega (arith, (f i).1, e))) (larger-least xs s.1),
+      ))
 
   each-other : (es : List Entry) → lookup key es ≡ none → EachStamp (λ stamp. key ≡ stamp → ⊥) es
   each-other [] q = tt

@@ -24,24 +24,24 @@ use Rattle.bridge.specs.Edit.{shape, with_part}
 module _ (s : Side) (x : Slot) where
   pub shape-self : shape s x (son x s) (son x (other s)) (seen s x) ≡ x
   unfolding shape
-  shape-self = elim s [ Left ↦ refl | Right ↦ refl ]
+  shape-self = elim s as (λ s. shape s x (son x s) (son x (other s)) (seen s x) ≡ x) [ Left ↦ refl | Right ↦ refl ]
 
   module _ (n f : ℕ) (p : Pair) (k : ℕ) where
     pub near-son : with_part (son_on s) k (shape s x n f p) ≡ shape s x k f p
     unfolding with_part shape
-    near-son = elim s [ Left ↦ refl | Right ↦ refl ]
+    near-son = elim s as (λ s. with_part (son_on s) k (shape s x n f p) ≡ shape s x k f p) [ Left ↦ refl | Right ↦ refl ]
 
     pub far-son : with_part (son_on (other s)) k (shape s x n f p) ≡ shape s x n k p
     unfolding with_part shape
-    far-son = elim s [ Left ↦ refl | Right ↦ refl ]
+    far-son = elim s as (λ s. with_part (son_on (other s)) k (shape s x n f p) ≡ shape s x n k p) [ Left ↦ refl | Right ↦ refl ]
 
     pub near-register : with_part (register_on s) k (shape s x n f p) ≡ shape s x n f (pair k p.far)
     unfolding with_part shape
-    near-register = elim s [ Left ↦ refl | Right ↦ refl ]
+    near-register = elim s as (λ s. with_part (register_on s) k (shape s x n f p) ≡ shape s x n f (pair k p.far)) [ Left ↦ refl | Right ↦ refl ]
 
     pub far-register : with_part (register_on (other s)) k (shape s x n f p) ≡ shape s x n f (pair p.near k)
     unfolding with_part shape
-    far-register = elim s [ Left ↦ refl | Right ↦ refl ]
+    far-register = elim s as (λ s. with_part (register_on (other s)) k (shape s x n f p) ≡ shape s x n f (pair p.near k)) [ Left ↦ refl | Right ↦ refl ]
 
   -- the same number again changes nothing
   pub same-son : with_part (son_on s) (son x s) x ≡ x

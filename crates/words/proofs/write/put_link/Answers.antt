@@ -1,0 +1,7 @@
+-- `words::write::put_link` meets its contract. Assumes nothing.
+use mathlib.Core.Path.{sym}
+use borrow.Author.Rules.{rules}
+use Rattle.words.proofs.write.put_link.Goals as goal
+
+pub returns : goal.returns
+returns c = simp (sym c.link_word-at.ensures)
