@@ -96,14 +96,14 @@ more-spent (all_spent e) = all_spent (ap suc e)
 more-spent (at_rest e) = at_rest e
 
 -- WHAT THE FIRINGS COME TO
-pub firings-run : {t t' : List ℕ} {c budget : ℕ} {xs : List Trial} → Whole t c → Firings c t budget xs t'
+pub firings-run : {c : ℕ} {t t' : List ℕ} {budget : ℕ} {xs : List Trial} → Whole t c → Firings c t budget xs t'
     → Ran t c budget xs t'
 unfolding answers after
 firings-run w (rests e) =
     record { table = refl; replies = refl; most = omega arith; stopped = at_rest e; whole = w; ledger = refl }
 firings-run w spent =
     record { table = refl; replies = refl; most = omega arith; stopped = all_spent refl; whole = w; ledger = refl }
-firings-run {t} {t'} {c} w (next {xs = xs} v n e a f) =
+firings-run {c} {t} w (next {xs = xs} v n e a f) =
     let x = trial_at t c v n in
     let s = fire-ledger w x in
     let r = firings-run s.whole f in
