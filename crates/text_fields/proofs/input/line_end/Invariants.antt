@@ -1,10 +1,8 @@
 -- `text_fields::input::line_end` meets its contract. The invariant: what is left of the line from i on makes up its length.
 use Prim.Native.Nat.{◌+◌, ◌-◌, ◌≤◌}
-use mathlib.Core.Path.{◌≡◌, refl}
-use native.Mathlib.Omega.{arith}
+use mathlib.Core.Path.{◌≡◌}
 use lib.ListN.{length, drop}
 use Rattle.text_fields.specs.Text.{first_line}
-use Rattle.text_fields.proofs.Lines.{line-newline, line-more, line-none}
 use Rattle.text_fields.proofs.input.line_end.Given as goal
 
 abbrev pub invariant-loop-i : goal.invariant-loop-i

@@ -1,6 +1,6 @@
 -- `text_fields::number::number_at` meets its contract: each way out is a law of `number_at` over what `digits_at` tells (`Known`).
 use native.Mathlib.Omega.{arith}
-use Rattle.text_fields.proofs.Numbers.{Known, digits-known, digits-too, number-empty, number-led, number_short, number-plain, number-over}
+use Rattle.text_fields.proofs.Numbers.{digits-known, digits-too, number-empty, number-led, number_short, number-plain, number-over}
 use Rattle.text_fields.proofs.number.number_at.Goals as goal
 use Rattle.text_fields.proofs.number.number_at.Goals.{then-s-at-eq48+else-at-next, else-s-at-eq48}
 

@@ -1,6 +1,5 @@
 -- `text_fields::read::end` meets its contract. Assumes nothing.
 use borrow.Author.Tests.{eq-eqb, ne_eqb}
-use borrow.Author.Rules.{rules}
 use Rattle.text_fields.specs.Read.{word_then, number_then, end_then}
 use Rattle.text_fields.proofs.read.end.Goals as goal
 

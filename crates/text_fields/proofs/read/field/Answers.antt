@@ -1,5 +1,4 @@
 -- `text_fields::read::field` meets its contract. Assumes nothing.
-use borrow.Author.Rules.{rules}
 use Rattle.text_fields.proofs.read.field.Goals as goal
 
 pub returns : goal.returns

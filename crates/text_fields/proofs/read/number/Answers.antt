@@ -1,6 +1,5 @@
 -- `text_fields::read::number` meets its contract. Assumes nothing.
 use mathlib.Core.Path.{sym}
-use borrow.Author.Rules.{rules}
 use Rattle.text_fields.specs.Read.{word_then, number_then, end_then}
 use Rattle.text_fields.proofs.read.number.Goals as goal
 

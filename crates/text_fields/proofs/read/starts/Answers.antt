@@ -1,9 +1,7 @@
 -- `text_fields::read::starts` meets its contract. The invariant is `Matching`: the word stands at `at` just if the rest of it, from i on, stands at j.
-use Prim.Native.Nat.{◌-◌}
 use mathlib.Core.Path.{refl}
 use native.Mathlib.Omega.{arith}
-use lib.ListN.{length}
-use Rattle.text_fields.proofs.Words.{Matching, matching-next, matching-differs, matching-short, matching-done}
+use Rattle.text_fields.proofs.Words.{matching-next, matching-differs, matching-short, matching-done}
 use Rattle.text_fields.proofs.read.starts.Goals as goal
 
 -- Assumes nothing.

@@ -1,7 +1,6 @@
 -- `text_fields::read::word` meets its contract. Assumes nothing.
 use mathlib.Core.Path.{sym, ◌∙◌}
 use native.Mathlib.Omega.{arith}
-use borrow.Author.Rules.{rules}
 use lib.ListN.{drop, length-drop}
 use Rattle.text_fields.proofs.Words.{starts-fits}
 use Rattle.text_fields.specs.Read.{word_then, number_then, end_then}
