@@ -1,5 +1,4 @@
 -- `text_print::line::put_answer` meets its contract. Assumes nothing.
-use borrow.Author.Rules.{rules}
 use Rattle.text_print.proofs.Laid.{field-then, last-text}
 use Rattle.text_print.specs.Line.{answer_line}
 use Rattle.text_print.proofs.line.put_answer.Goals as goal

@@ -1,5 +1,4 @@
 -- `text_print::line::put_end` meets its contract. Assumes nothing.
-use borrow.Author.Rules.{rules}
 use Rattle.text_print.proofs.Laid.{field-then, last-text}
 use Rattle.text_print.specs.Line.{record_end}
 use Rattle.text_print.proofs.line.put_end.Goals as goal

@@ -1,5 +1,4 @@
 -- `text_print::line::put_record` meets its contract. Assumes nothing.
-use borrow.Author.Rules.{rules}
 use Rattle.text_print.proofs.Laid.{both-put, record-parts}
 use Rattle.text_print.proofs.line.put_record.Goals as goal
 

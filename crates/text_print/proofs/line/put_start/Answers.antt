@@ -1,5 +1,4 @@
 -- `text_print::line::put_start` meets its contract. Assumes nothing.
-use borrow.Author.Rules.{rules}
 use Rattle.text_print.proofs.Laid.{field-then, no_text, no_more}
 use Rattle.text_print.specs.Line.{record_start}
 use Rattle.text_print.proofs.line.put_start.Goals as goal

@@ -1,6 +1,5 @@
 -- `text_print::text::put_field` meets its contract. Assumes nothing.
 use native.Mathlib.Omega.{arith}
-use borrow.Author.Rules.{rules}
 use Rattle.text_print.proofs.Laid.{put_then}
 use Rattle.text_fields.proofs.Decimal.{decimal-length}
 use Rattle.text_print.proofs.text.put_field.Goals as goal

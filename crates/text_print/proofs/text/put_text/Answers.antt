@@ -1,10 +1,8 @@
 -- `text_print::text::put_text` meets its contract. The invariant: what is left of the text, laid from its place on, makes the whole.
-use Prim.Native.Nat.{◌+◌, ◌-◌, ◌≤◌}
-use mathlib.Core.Path.{◌≡◌, refl, sym, ◌∙◌}
+use mathlib.Core.Path.{refl, sym, ◌∙◌}
 use native.Mathlib.Omega.{arith}
 use native.Mathlib.Nat.{add-zero}
-use lib.ListN.{length, drop, length-set}
-use Rattle.text_print.specs.Put.{laid}
+use lib.ListN.{length-set}
 use Rattle.text_print.proofs.Laid.{laid-step, laid_end}
 use Rattle.text_print.proofs.text.put_text.Goals as goal
 

@@ -1,11 +1,8 @@
 -- `text_print::text::put_text` meets its contract. The invariant: what is left of the text, laid from its place on, makes the whole.
 use Prim.Native.Nat.{◌+◌, ◌-◌, ◌≤◌}
-use mathlib.Core.Path.{◌≡◌, refl, sym, ◌∙◌}
-use native.Mathlib.Omega.{arith}
-use native.Mathlib.Nat.{add-zero}
-use lib.ListN.{length, drop, length-set}
+use mathlib.Core.Path.{◌≡◌}
+use lib.ListN.{length, drop}
 use Rattle.text_print.specs.Put.{laid}
-use Rattle.text_print.proofs.Laid.{laid-step, laid_end}
 use Rattle.text_print.proofs.text.put_text.Given as goal
 
 abbrev pub invariant-loop-i : goal.invariant-loop-i
