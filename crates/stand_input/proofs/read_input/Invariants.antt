@@ -1,13 +1,11 @@
 -- `stand_input::read_input` is safe and ends: a turn that reads nothing is the last. Assumes nothing.
 use Prim.Native.Nat.{◌-◌, ◌≤◌}
 use mathlib.Core.Path.{◌≡◌}
-use mathlib.Core.Bool.{Bool, true, false, not, true≢false}
-use native.Mathlib.Omega.{arith}
 use lib.ListN.{length}
 use Rattle.stand_input.proofs.read_input.Given as goal
 
 abbrev pub invariant-loop-n : goal.invariant-loop-n
-invariant-loop-n l = (l.n ≤ length l.buf) × (length l.buf ≡ length l.initial.buf)
+invariant-loop-n g l = (l.n ≤ length l.buf) × (length l.buf ≡ length l.initial.buf)
 
 abbrev pub decreases-loop-n : goal.decreases-loop-n
-decreases-loop-n l = length l.buf - l.n
+decreases-loop-n g l = length l.buf - l.n
