@@ -8,7 +8,7 @@ ghost use Rattle.fork.specs.Hangs.{fork_at};
 
 use scope::Slot;
 
-#[derive(Drop)]
+#[derive(Clone, Copy)]
 pub struct Fork {
     pub slot: Slot,
     pub left: usize,

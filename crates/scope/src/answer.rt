@@ -1,5 +1,5 @@
 // What a call answers: five numbers; and why it refuses.
-#[derive(Drop)]
+#[derive(Clone, Copy)]
 pub struct Answer {
     pub code: u64,
     pub change: u64,
@@ -9,7 +9,7 @@ pub struct Answer {
 }
 
 // The refusals, in the order of their codes from 1 on.
-#[derive(Drop)]
+#[derive(Clone, Copy)]
 pub enum Refusal {
     WrongLength,
     OutOfRange,
@@ -28,7 +28,7 @@ impl Answer {
 }
 
 // How a call begins: refused, or let in to a table of so many slots.
-#[derive(Drop)]
+#[derive(Clone, Copy)]
 pub enum Gate {
     Shut(Refusal),
     Open(usize),

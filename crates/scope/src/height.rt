@@ -2,13 +2,13 @@
 ghost use Rattle.std.specs.Prelude.{◌≡◌};
 ghost use Rattle.scope.specs.Numbers.{height_of};
 
-#[derive(Drop)]
+#[derive(Clone, Copy)]
 pub struct Height {
     pub number: u32,
 }
 
 // A raw number read as a height.
-#[derive(Drop)]
+#[derive(Clone, Copy)]
 pub enum HeightIs {
     Within(Height),
     Above,

@@ -5,7 +5,7 @@ ghost use Rattle.scope.specs.Numbers.{rule_is, rule_of};
 use crate::side::Side;
 
 // What a rule does: carry a height up, rotate where u leans out, rotate where u is even, rotate twice.
-#[derive(Drop)]
+#[derive(Clone, Copy)]
 pub enum Kind {
     Propagate,
     Lean,
@@ -13,21 +13,21 @@ pub enum Kind {
     Double,
 }
 
-#[derive(Drop)]
+#[derive(Clone, Copy)]
 pub struct Rule {
     pub kind: Kind,
     pub side: Side,
 }
 
 // A raw number read as a rule.
-#[derive(Drop)]
+#[derive(Clone, Copy)]
 pub enum RuleIs {
     Known(Rule),
     Unknown,
 }
 
 // A node's two registers as a rule sees them: near is on the rule's side, far on the other.
-#[derive(Drop)]
+#[derive(Clone, Copy)]
 pub struct Pair {
     pub near: u32,
     pub far: u32,

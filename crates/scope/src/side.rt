@@ -2,14 +2,14 @@
 ghost use Rattle.std.specs.Prelude.{◌≡◌};
 ghost use Rattle.scope.specs.Numbers.{other, side_of, link_of};
 
-#[derive(Drop)]
+#[derive(Clone, Copy)]
 pub enum Side {
     Left,
     Right,
 }
 
 // A raw number read as a side.
-#[derive(Drop)]
+#[derive(Clone, Copy)]
 pub enum SideIs {
     Known(Side),
     Unknown,
@@ -41,14 +41,14 @@ impl Side {
 }
 
 // A link: a side of the slot that holds it, or the root's link, which slot 0 holds on its left.
-#[derive(Drop)]
+#[derive(Clone, Copy)]
 pub struct Link {
     pub holder: usize,
     pub side: Side,
 }
 
 // Two raw numbers read as a link of a table.
-#[derive(Drop)]
+#[derive(Clone, Copy)]
 pub enum LinkIs {
     Known(Link),
     Unknown,

@@ -3,7 +3,7 @@ ghost use Rattle.std.specs.Prelude.{◌≡◌};
 ghost use Rattle.scope.specs.Table.{zero_slot, with_record};
 
 // A word before the slots, by its place.
-#[derive(Drop)]
+#[derive(Clone, Copy)]
 pub struct Head {
     pub place: usize,
 }
@@ -20,7 +20,7 @@ impl Head {
     pub const WORDS: usize = 4;
 }
 
-#[derive(Drop)]
+#[derive(Clone, Copy)]
 pub struct Slot {
     pub state: u32,
     pub key: u32,
@@ -86,7 +86,7 @@ impl Slot {
     }
 }
 
-#[derive(Drop)]
+#[derive(Clone, Copy)]
 pub struct State {
     pub number: u32,
 }

@@ -2,13 +2,13 @@
 ghost use Rattle.std.specs.Prelude.{◌≡◌};
 ghost use Rattle.scope.specs.Numbers.{slots_of};
 
-#[derive(Drop)]
+#[derive(Clone, Copy)]
 pub struct Slots {
     pub count: usize,
 }
 
 // A raw number read as a number of slots.
-#[derive(Drop)]
+#[derive(Clone, Copy)]
 pub enum SlotsIs {
     Within(Slots),
     Outside,

@@ -17,7 +17,7 @@ pub const DESK_WORDS: usize = Head::WORDS + Slot::WORDS * DESK_SLOTS;
 pub const DESK_ROOM: usize = 133 + 214 * DESK_SLOTS;
 
 // What is to be printed: an answer, or the whole list.
-#[derive(Drop)]
+#[derive(Clone, Copy)]
 pub enum Reply {
     Say(Answer),
     List,

@@ -6,7 +6,7 @@ ghost use Rattle.std.specs.Prelude.{◌≡◌, false, ◌+◌, ◌≤◌, length
 use libc::STDIN_FILENO;
 
 // What came of one read.
-#[derive(Drop)]
+#[derive(Clone, Copy)]
 pub struct Got {
     pub count: usize,
     pub failed: bool,
@@ -39,7 +39,7 @@ pub fn read_at(buf: &mut [u8], n: usize) -> Got
 }
 
 // What came of reading all: how many bytes, whether a read failed, and whether the input ended.
-#[derive(Drop)]
+#[derive(Clone, Copy)]
 pub struct Input {
     pub count: usize,
     pub failed: bool,

@@ -10,7 +10,7 @@ ghost use Rattle.stand_shift.specs.Run.{AnsweredSo};
 use stand_desk::DESK_ROOM;
 
 // Where the next line begins, and how much of the buffer is filled.
-#[derive(Drop)]
+#[derive(Clone, Copy)]
 pub struct Filled {
     pub next: usize,
     pub at: usize,

@@ -3,14 +3,14 @@ ghost use Rattle.std.specs.Prelude.{◌≡◌};
 ghost use Rattle.text_fields.specs.Number.{digits_at, number_at};
 
 // A run of digits that starts at some place: what it is worth, and the place after it.
-#[derive(Drop)]
+#[derive(Clone, Copy)]
 pub enum DigitsRead {
     Digits { value: u64, next: usize },
     TooLarge,
 }
 
 // A number at some place, and the place after it.
-#[derive(Drop)]
+#[derive(Clone, Copy)]
 pub enum NumberRead {
     Number { value: u32, next: usize },
     NoNumber,

@@ -6,7 +6,7 @@ ghost use Rattle.text_fields.specs.Read.{word_then, number_then, field_then, end
 use crate::number::{NumberRead, number_at};
 
 // How far a line is read: the last three numbers, and the place after them; or it is of another form.
-#[derive(Drop)]
+#[derive(Clone, Copy)]
 pub enum Read {
     Numbers { a: u32, b: u32, c: u32, next: usize },
     Other,

@@ -3,7 +3,7 @@ ghost use Rattle.std.specs.Prelude.{◌≡◌};
 ghost use Rattle.text_lines.specs.Form.{asked};
 
 // The ten names that a line can begin with.
-#[derive(Drop)]
+#[derive(Clone, Copy)]
 pub enum Op {
     Post,
     Amend,
@@ -18,7 +18,7 @@ pub enum Op {
 }
 
 // The same with their numbers, in the order of their fields; or a line that is none of them.
-#[derive(Drop)]
+#[derive(Clone, Copy)]
 pub enum Command {
     Post { key: u32, pieces: u32, state: u32 },
     Amend { key: u32, pieces: u32, state: u32 },

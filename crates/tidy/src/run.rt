@@ -8,7 +8,7 @@ use crate::scan::{Coming, next};
 use scope::{Kind, Nodes, Rule};
 
 // How a run ended: the firings made, and 1 if no guard holds then, else 0.
-#[derive(Drop)]
+#[derive(Clone, Copy)]
 pub struct End {
     pub made: u32,
     pub more: u64,

@@ -5,7 +5,7 @@ use scope::{Nodes, Rule, RuleIs, Side};
 use tidy_sight::{due, look};
 
 // The next firing, by its slot and its rule's number, with the rule and its nodes; or none.
-#[derive(Drop)]
+#[derive(Clone, Copy)]
 pub enum Coming {
     At(usize, u32, Rule, Nodes),
     Nothing,

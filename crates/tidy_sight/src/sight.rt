@@ -7,7 +7,7 @@ ghost use Rattle.tidy_sight.specs.Sight.{sight_of, on_side, allowed, due_seen, P
 use scope::{Height, Kind, Link, Nodes, Pair, Rule, Side, Slot, State};
 
 // A side of slot v: whether it has a son u there, the registers of both, and u's son on the other side.
-#[derive(Drop)]
+#[derive(Clone, Copy)]
 pub struct Sight {
     pub there: bool,
     pub v: Pair,

@@ -1,0 +1,7 @@
+-- `gate::tests::spare` meets its contract. Assumes nothing.
+use mathlib.Core.Path.{refl}
+use borrow.Author.Rules.{rules}
+use Rattle.gate.proofs.tests.spare.Goals as goal
+
+pub returns : goal.returns
+returns c = refl
