@@ -1,0 +1,6 @@
+-- `post::leaf` meets its contract. Assumes nothing.
+use borrow.Author.Rules.{rules}
+use Rattle.post.proofs.leaf.Goals as goal
+
+pub returns : goal.returns
+returns c = simp (c.with_record.ensures, c.zeros.ensures)
