@@ -72,7 +72,10 @@ module _ (key : ℕ) where
       by_bool (ltb x.key key)
       (λ p. let e : below key (x ∷ xs) ≡ max x.key (below key xs) = rw p refl in
       ((λ i. omega (arith, e)), each_map _ _ xs (λ stamp f i. omega (arith, f i, e)) (smaller-most xs)))
-      (λ p. rw p ((λ i. omega (arith, ltb-false x.key key p)), smaller-most xs))
+      (λ p. let e : below key (x ∷ xs) ≡ below key xs = rw p refl in (
+        (λ i. absurd (omega (arith, ltb-false x.key key p, i))),
+        each_map _ _ xs (λ stamp f i. omega (arith, f i, e)) (smaller-most xs),
+      ))
 
   larger-least : (es : List Entry) → Sorted es
       → EachStamp (λ stamp. key < stamp → (1 ≤ above key es) × (above key es ≤ stamp)) es

@@ -142,8 +142,8 @@ module _ (t : List ℕ) (c : ℕ) (l : Link) where
         → (highest k v u u ≤ most_height → At (mk s dv v (mk s du u m n) far) T (written t (action_at (rule_on k s) pairs)))
         → Same k
     single k e T top act =
-        alike-by t _ (top guard) (top (within most_height)) (aims k e)
-        (judge t _ k s pairs v u u T lv.registers lu.registers lu.registers act)
+        alike-by t (At (mk s dv v (mk s du u m n) far)) (top guard) (top (within most_height)) (aims k e)
+        (judge t (At (mk s dv v (mk s du u m n) far)) k s pairs v u u T lv.registers lu.registers lu.registers act)
 
     propagate-same : Same Propagate
     unfolding rewrite_top action_at
@@ -184,7 +184,7 @@ module _ (t : List ℕ) (c : ℕ) (l : Link) where
       unfolding rewrite_top Spells
       twice-none h =
           let top : (test : Test) → rewrite_top test (rule_on Double s) (mk s dv v (mk s du u m leaf) far) ≡ none = λ test. simp top-is in
-          alike-by t _ (top guard) (top (within most_height))
+          alike-by t (At (mk s dv v (mk s du u m leaf) far)) (top guard) (top (within most_height))
           (aims-on s dv du v u m leaf far h ∙ no-w (look-u l s dv du v u m leaf far h).far_son) guard_fails
 
       twice-full : (dw : Batch) (w : Pair) (e f : Tree) (h : Hangs t c l (mk s dv v (mk s du u m (mk s dw w e f)) far))
@@ -195,10 +195,10 @@ module _ (t : List ℕ) (c : ℕ) (l : Link) where
           ≡ when (test Double v u w) (doubled s dv du v u dw w m e f far) = λ test. simp top-is in
           let a = look-w l s dv du dw v u w m e f far h in
           let ne = not-holder l s dv du v u m (mk s dw w e f) far h z (w-in l s dv du dw v u w m e f far h).once in
-          alike-by t _ (top guard) (top (within most_height))
+          alike-by t (At (mk s dv v (mk s du u m (mk s dw w e f)) far)) (top guard) (top (within most_height))
           (aims-on s dv du v u m (mk s dw w e f) far h
           ∙ got-third a ne (λ q. x-z l s dv du dw v u w m e f far h (sym q)) (λ q. y-z l s dv du dw v u w m e f far h (sym q)))
-          (judge t _ Double s (three_nodes l s dv du dw v u w m e f far h) v u w (doubled s dv du v u dw w m e f far)
+          (judge t (At (mk s dv v (mk s du u m (mk s dw w e f)) far)) Double s (three_nodes l s dv du dw v u w m e f far h) v u w (doubled s dv du v u dw w m e f far)
           (look-v l s dv du v u m (mk s dw w e f) far h).registers (look-u l s dv du v u m (mk s dw w e f) far h).registers
           a.registers (twice-below l s dv du dw v u w m e f far h))
 
@@ -227,7 +227,7 @@ module _ (t : List ℕ) (c : ℕ) (l : Link) where
       let a = look t c x dv v leaf far s h.spells in
       let once : 1 ≤ times x (mk s dv v leaf far)
       = omega (arith, times-mk s dv v leaf far x, ap (λ (d : Batch). same x d.slot) a.holds, same-one x x refl) in
-      alike-by t _ (top guard) (top (within most_height))
+      alike-by t (At (mk s dv v leaf far)) (top guard) (top (within most_height))
       (got-v k s a (λ q. omega (arith, ap (λ (j : ℕ). times j (mk s dv v leaf far)) q, h.apart)) ∙ no-u k s (slot_at t x) a.near_son)
       guard_fails
 

@@ -76,10 +76,12 @@ same-along {t} {c} r (s ∷ way) l T S h g e =
     (λ d p near far q k.
     let held : Held t c (record { holder = word t (link_at l); side = s })
     = by_bool (eqb (word t (link_at l)) 0) (λ z. simp z) (λ z. simp z (holder-fit l s d p near far k)) in
+    let on : Link = record { holder = word t (link_at l); side = s } in
     simp top-is
-    (hung-alike t _ _ s d p far (fire_at way r near) (accept_at way r near) _
+    (hung-alike t (λ near' t'. ChangedBelow t t' c on near near') (λ T' t'. ChangedBelow t t' c l (mk s d p near far) T')
+    s d p far (fire_at way r near) (accept_at way r near) (aim t c r (link_along t way on))
     (λ near' t' b. changed-above l s d p near far k near' b)
-    (same-along r way (record { holder = word t (link_at l); side = s }) near S (hangs-down l s d p near far k) held q)))
+    (same-along r way on near S (hangs-down l s d p near far k) held q)))
     h
 
 -- what hangs at the end of a way

@@ -100,10 +100,10 @@ pub record Rewritten (t t' : List ℕ) (c : ℕ) (es : List Edit) : Type 0 where
 pub rewritten : {t : List ℕ} {c : ℕ} → Sized t c → (es : List Edit) → EditsInside c es
     → Rewritten t (written t (writes es)) c es
 unfolding written writes edited rooted
-rewritten z [] i = record { sized = z; slots = λ k h. refl; root = refl; head = λ i h l. refl }
-rewritten z (e ∷ es) i =
+rewritten {t = t} {c = c} z [] i = record { sized = z; slots = λ k h. refl; root = refl; head = λ i h l. refl }
+rewritten {t = t} {c = c} z (e ∷ es) i =
     let k = e.slot in
-    let r = rewritten (put-sized z k e.what e.part) es i.1 in
+    let r = rewritten {t = set {A = ℕ} t (place_of e.slot e.part) e.what} {c = c} (put-sized z k e.what e.part) es i.1 in
     record {
       sized = r.sized;
       slots = λ j h. r.slots j h ∙ ap (edited es j) (put-slot z k e.what e.part j i.0 h);

@@ -25,12 +25,13 @@ use Rattle.scope.specs.declared.outcome.Nodes.{Nodes}
 use Rattle.scope.specs.declared.outcome.Firing.{Firing}
 use Rattle.scope.specs.declared.outcome.Firing.TheVariants.{Refuse, Fire}
 use Rattle.spelling.specs.Whole.{Whole}
-use Rattle.tree.specs.Rewrite.{mk, rule_on, Test, rewrite_top, rewrite_at, within, accept_at}
+use Rattle.tree.specs.Rewrite.{mk, rule_on, Test, rewrite_top, rewrite_at, within, fire_at, accept_at}
 use Rattle.tree.specs.Step.{Step, propagates, leans, evens, doubles}
 use Rattle.tree.proofs.Firing.Steps.{by_side, steps}
 use Rattle.tree.proofs.Firing.Place.{placed, fires-there}
 use Rattle.bridge.specs.Below.{Hangs}
 use Rattle.bridge.specs.Alike.{Alike}
+use Rattle.bridge.specs.Fired.{Fired}
 use Rattle.bridge.specs.Leads.{link_along, Leads}
 use Rattle.bridge.proofs.Links.Looks.{look}
 use Rattle.bridge.proofs.Firing.Turns.{look-v, look-u}
@@ -146,7 +147,9 @@ module _ {t : List ℕ} {c : ℕ} (w : Whole t c) (r : Rule) where
       let m = due-meets e in
       let o = meets-there (within most_height) v i j m in
       let a = rw o.2 at (same_way w r (link_to t c v) o.0) in
-      let f : FiresDue t c r (link_to t c v) = fires-out t _ _ _ _ a (λ q n x. fires-so q n t c r (link_to t c v) x) in
+      let f : FiresDue t c r (link_to t c v)
+      = fires-out t (λ T' t'. Fired t t' c T T') (fire_at o.0.way r T) o.1 (aim t c r (link_to t c v)) a
+      (λ q n x. fires-so q n t c r (link_to t c v) x) in
       rw (link-to w v i j (v-some m)).1 at f.is
 
   -- AND WHAT IS ACCEPTED ON THE TREE is due at the slot there
@@ -157,5 +160,8 @@ module _ {t : List ℕ} {c : ℕ} (w : Whole t c) (r : Rule) where
       let l = link_along t way root_link in
       let lead : Leads t root_link T l = record { way = way; tree = p.from; there = p.there; ends = refl } in
       let a = rw e at (same_way w r l lead) in
-      let h = hangs-along way root_link T p.from (hangs-root w) p.there in
-      (fires-out t _ _ _ _ a (λ q n x. fires-so q n t c r l x), h.most)
+      let h = hangs-along way root_link T p.from (hangs-root w) p.there in (
+        fires-out t (λ U t'. Fired t t' c T U) (fire_at way r T) T' (aim t c r l) a
+            (λ q n x. fires-so q n t c r l x),
+        h.most,
+      )

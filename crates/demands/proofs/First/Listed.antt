@@ -1,7 +1,7 @@
 -- Demand 1: every call is accepted, or refused with a listed code and every word as it was; four zeros go with the code, or,
 -- where a key is absent, the last keys passed. Assumes nothing.
 use Prim.Native.Nat.{ℕ}
-use mathlib.Core.Path.{◌≡◌, refl, sym, ◌∙◌, ap}
+use mathlib.Core.Path.{◌≡◌, refl, sym, ◌∙◌, ap, subst}
 use mathlib.Core.Bool.{true}
 use mathlib.Core.Option.{some}
 use mathlib.Core.List.{List, [], ◌∷◌, ◌++◌}
@@ -80,8 +80,9 @@ module _ (x : Call) (t : List ℕ) where
   code-listed =
       by_answer
       (λ z. rw z refl)
-      (λ why e u l. rw e (or-on (eqb (code_of why) 0) _ (among-past (code_of why) (code_for_key (needs x)) (codes_bare x) l)))
-      (λ key n m e u. rw (e, n) refl)
+      (λ why e u l. subst (λ (n : ℕ). among n (0 ∷ codes_listed x) ≡ true) (sym (ap code_in e))
+      (or-on (eqb (code_of why) 0) _ (among-past (code_of why) (code_for_key (needs x)) (codes_bare x) l)))
+      (λ key n m e u. subst (λ (k : ℕ). among k (0 ∷ codes_listed x) ≡ true) (sym (ap code_in e)) (rw n refl))
 
   -- every refusal has four zeros after its code, but 5 for a key
   pub refused-zeros : Refuses x t → (LacksKey x t → ⊥) → answer_of x t ≡ only_code (answer_of x t)

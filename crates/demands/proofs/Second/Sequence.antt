@@ -68,10 +68,10 @@ and_then x xs s r =
 -- ANY CALLS from a sound table
 pub calls-ledger : {t : List ℕ} {c : ℕ} → Whole t c → (xs : List Call) → SameCalls xs t c
 unfolding all_apart after ledger_answers ledger_after_all
-calls-ledger w [] = record { each = refl; whole = w; ledger = refl }
-calls-ledger w (x ∷ xs) =
+calls-ledger {t = t} {c = c} w [] = record { each = refl; whole = w; ledger = refl }
+calls-ledger {t = t} {c = c} w (x ∷ xs) =
     let s = call-ledger w x in
-    and_then x xs s (calls-ledger s.whole xs)
+    and_then x xs s (calls-ledger {t = table_of x t} {c = c} s.whole xs)
 
 -- ANY CALLS AFTER START, whatever the words were
 pub started-ledger : {t : List ℕ} {c : ℕ} → Sized t c → (xs : List Call) → SameCalls (Start ∷ xs) t c

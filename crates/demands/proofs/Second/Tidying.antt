@@ -95,18 +95,18 @@ more-spent : {t : List ℕ} {c n budget : ℕ} → Stopped t c n budget → Stop
 more-spent (all_spent e) = all_spent (ap suc e)
 more-spent (at_rest e) = at_rest e
 
--- WHAT THE FIRINGS COME TO
-pub firings-run : {t t' : List ℕ} {c budget : ℕ} {xs : List Trial} → Whole t c → Firings c t budget xs t'
+-- by recursion on the firings
+firings-on : (c : ℕ) {t t' : List ℕ} {budget : ℕ} {xs : List Trial} → Whole t c → Firings c t budget xs t'
     → Ran t c budget xs t'
 unfolding answers after
-firings-run w (rests e) =
+firings-on c w (rests e) =
     record { table = refl; replies = refl; most = omega arith; stopped = at_rest e; whole = w; ledger = refl }
-firings-run w spent =
+firings-on c w spent =
     record { table = refl; replies = refl; most = omega arith; stopped = all_spent refl; whole = w; ledger = refl }
-firings-run {t} {t'} {c} w (next {xs = xs} v n e a f) =
+firings-on c {t} w (next {xs = xs} v n e a f) =
     let x = trial_at t c v n in
     let s = fire-ledger w x in
-    let r = firings-run s.whole f in
+    let r = firings-on c s.whole f in
     let same : word (tried_on t x).words change_word ≡ word t change_word = ap (λ (l : Ledger). l.change) s.ledger in
     record {
       table = r.table;
@@ -116,6 +116,11 @@ firings-run {t} {t'} {c} w (next {xs = xs} v n e a f) =
       whole = r.whole;
       ledger = r.ledger ∙ s.ledger;
     }
+
+-- WHAT THE FIRINGS COME TO
+pub firings-run : {t t' : List ℕ} {c budget : ℕ} {xs : List Trial} → Whole t c → Firings c t budget xs t'
+    → Ran t c budget xs t'
+firings-run {t} {t'} {c} w f = firings-on c w f
 
 -- the call on a sound table
 tidy-opens : {t : List ℕ} {c : ℕ} → Whole t c → (budget : ℕ) → tidy_of t budget ≡ tidied t c (tidy_from budget c t 0)

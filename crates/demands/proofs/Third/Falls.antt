@@ -40,5 +40,6 @@ worth-falls-at w x z = omega (arith, rw z at (costs x (fares w x)))
 pub spends : {t : List ℕ} {c : ℕ} → Whole t c → (xs : List Trial)
     → accepted_in (answers (fires xs) t) + worth_in (after (fires xs) t) c ≤ worth_in t c
 unfolding answers after accepted_in
-spends w [] = omega arith
-spends w (x ∷ xs) = omega (arith, costs x (fares w x), spends (fire-ledger w x).whole xs)
+spends {t = t} {c = c} w [] = omega arith
+spends {t = t} {c = c} w (x ∷ xs) =
+    omega (arith, costs x (fares w x), spends {t = (tried_on t x).words} {c = c} (fire-ledger w x).whole xs)

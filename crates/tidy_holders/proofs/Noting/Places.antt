@@ -112,11 +112,12 @@ module _ {t : List ℕ} {c : ℕ} (z : Sized t c) (q : ℕ) (i : CodeIn c q) whe
 pub held-edits : {t : List ℕ} {c : ℕ} → Sized t c → (q : ℕ) → CodeIn c q → (es : List Edit) → AllProper c es
     → held_at (written t (writes es)) q ≡ held_by es q (held_at t q)
 unfolding written writes held_by
-held-edits z q i [] a = refl
+held-edits {t} {c} z q i [] a = refl
 held-edits {t} {c} z q i (e ∷ es) a =
     let still : Sized (set t (place_of e.slot e.part) e.what) c
     = record { room = simp length-set z.room; some = z.some; most = z.most } in
-    held-edits still q i es a.1 ∙ ap (held_by es q) (put-part z q i e.part e.slot e.what a.0)
+    held-edits {t = set t (place_of e.slot e.part) e.what} {c = c} still q i es a.1
+    ∙ ap (held_by es q) (put-part z q i e.part e.slot e.what a.0)
 
 -- where slot k is noted after an edit, and after several
 unfoldable pub note_part : Part → ℕ → ℕ → ℕ → ℕ → ℕ
@@ -156,5 +157,5 @@ pub note-edits : (h : List ℕ) → length h ≡ 4096 → (k : ℕ) (es : List E
 unfolding noted note_by
 note-edits h len k [] a = (len, refl)
 note-edits h len k (e ∷ es) a =
-    let r = note-edits _ (note-length h len e.part e.slot e.what) k es a.1 in
+    let r = note-edits (noted_part e.part e.slot e.what h) (note-length h len e.part e.slot e.what) k es a.1 in
     (r.0, r.1 ∙ ap (note_by es k) (note-part h len e.part e.slot e.what k a.0))

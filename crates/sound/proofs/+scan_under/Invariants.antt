@@ -1,0 +1,20 @@
+-- `sound::scan` and `sound::under` meet their contracts. Assumes nothing.
+use Prim.Native.Nat.{ℕ, ◌+◌, ◌*◌, ◌<◌}
+use native.Mathlib.Omega.{arith}
+use borrow.Author.Rules.{rules}
+use Rattle.sound.proofs.Along.{Along, along-start, along-spent, along-refused, along-left}
+use Rattle.sound.proofs.Along.{along-spoiled, along-less, along-end, along-right}
+use Rattle.sound.proofs.Steps.{at_end, is-left}
+use Rattle.sound.proofs.+scan_under.Given as goal
+
+abbrev pub decreases-scan : goal.decreases-scan
+decreases-scan l = 2 * l.more
+
+abbrev pub decreases-under : goal.decreases-under
+decreases-under l = 2 * l.more + 1
+
+abbrev pub invariant-scan-loop-few : goal.invariant-scan-loop-few
+invariant-scan-loop-few l = Along l.t l.initial.m l.c l.more l.x l.low l.high l.m l.at l.from l.few
+
+abbrev pub decreases-scan-loop-few : goal.decreases-scan-loop-few
+decreases-scan-loop-few l = l.few
