@@ -1,5 +1,5 @@
 -- post: a new record in the lowest free slot, hung where its key belongs (document 01, "Calls and what they answer").
-use Rattle.std.specs.Prelude.{ℕ, zero, suc, ◌+◌, Bool, cond, not, ◌&&◌, List, set, ltb, eqb}
+use Rattle.std.specs.Prelude.{ℕ, zero, suc, ◌+◌, cond, ◌&&◌, List, set, ltb, eqb}
 use Rattle.scope.specs.Numbers.{last_change}
 use Rattle.scope.specs.Table.{word, count_word, change_word, slot_at, zero_slot, with_record, with_slot, link_at}
 use Rattle.scope.specs.Fit.{record_ok, blank_slot, header_ok}

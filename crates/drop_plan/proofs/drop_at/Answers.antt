@@ -1,7 +1,6 @@
 -- `drop_plan::drop_at` meets its contract. Assumes nothing.
 use mathlib.Core.Path.{sym}
 use native.Mathlib.Omega.{arith}
-use borrow.Author.Rules.{rules}
 use borrow.Author.Tests.{eq-eqb, ne_eqb}
 use Rattle.scope.specs.Drop.{drop_at}
 use Rattle.scope.specs.declared.side.Side.TheVariants.{Left, Right}

@@ -1,5 +1,4 @@
 -- `drop_plan::dropping_at` meets its contract. Assumes nothing.
-use borrow.Author.Rules.{rules}
 use Rattle.scope.specs.Drop.{dropping_at}
 use Rattle.drop_plan.proofs.dropping_at.Goals as goal
 

@@ -1,7 +1,6 @@
 -- `drop_plan::if_may` meets its contract. Assumes nothing.
 use mathlib.Core.Path.{sym}
 use native.Mathlib.Omega.{arith}
-use borrow.Author.Rules.{rules}
 use borrow.Author.Tests.{eq-eqb, ne_eqb, lt-ltb, le-ltb}
 use Rattle.scope.specs.Drop.{if_may}
 use Rattle.drop_plan.proofs.Plans.{can-drop}

@@ -1,10 +1,8 @@
 -- `drop_plan::leftmost` meets its contract. Assumes nothing.
 use mathlib.Core.Path.{refl}
 use native.Mathlib.Omega.{arith}
-use borrow.Author.Rules.{rules}
-use Rattle.scope.specs.Drop.{leftmost_from}
 use Rattle.spelling.proofs.Laws.{in_table}
-use Rattle.drop_plan.proofs.Descending.{Descending, down-spent, down-unfit, down-here, down-on}
+use Rattle.drop_plan.proofs.Descending.{down-spent, down-unfit, down-here, down-on}
 use Rattle.drop_plan.proofs.leftmost.Goals as goal
 
 pub loop-more-init : goal.loop-more-init

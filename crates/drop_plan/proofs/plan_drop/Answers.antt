@@ -1,6 +1,5 @@
 -- `drop_plan::plan_drop` meets its contract. Assumes nothing.
 use mathlib.Core.Path.{sym, ◌∙◌}
-use borrow.Author.Rules.{rules}
 use Rattle.scope.specs.Drop.{drop_plan}
 use Rattle.spelling.proofs.Laws.{gate-ready}
 use Rattle.drop_plan.proofs.Hits.{hit-fits}

@@ -1,7 +1,6 @@
 -- `drop_plan::replacing` meets its contract. Assumes nothing.
 use mathlib.Core.Path.{sym}
 use native.Mathlib.Omega.{arith}
-use borrow.Author.Rules.{rules}
 use Rattle.gate.specs.AtSlot.{AtSlot}
 use Rattle.drop_plan.proofs.replacing.Goals as goal
 

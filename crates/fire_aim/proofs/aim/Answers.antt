@@ -1,6 +1,5 @@
 -- `fire_aim::aim` meets its contract. Assumes nothing.
 use mathlib.Core.Path.{sym, ◌∙◌}
-use borrow.Author.Rules.{rules}
 use Rattle.fire_aim.proofs.Aims.{reached-root, aim-root, aim-free, reached-slot, aim-slot, aim-unfit}
 use Rattle.fire_aim.proofs.aim.Goals as goal
 

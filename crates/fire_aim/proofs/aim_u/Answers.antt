@@ -1,6 +1,5 @@
 -- `fire_aim::aim_u` meets its contract. Assumes nothing.
 use mathlib.Core.Path.{sym, ◌∙◌}
-use borrow.Author.Rules.{rules}
 use Rattle.fire_aim.proofs.Aims.{aim-u-not, aim-u-third, aim-u-got}
 use Rattle.fire_aim.proofs.Taking.{took}
 use Rattle.scope.specs.Numbers.{other}

@@ -1,7 +1,6 @@
 -- `fire_aim::aim_v` meets its contract. Assumes nothing.
 use mathlib.Core.Path.{sym, ◌∙◌}
 use native.Mathlib.Omega.{arith}
-use borrow.Author.Rules.{rules}
 use Rattle.fire_aim.proofs.Aims.{aim-v-not, aim-v-near, aim-v-got}
 use Rattle.spelling.proofs.Laws.{link-lt}
 use Rattle.fire_aim.proofs.aim_v.Goals as goal

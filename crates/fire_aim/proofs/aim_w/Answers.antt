@@ -1,6 +1,5 @@
 -- `fire_aim::aim_w` meets its contract. Assumes nothing.
 use mathlib.Core.Path.{sym, ◌∙◌, ap}
-use borrow.Author.Rules.{rules}
 use Rattle.fire_aim.proofs.Aims.{aim-w-not, aim-w-got}
 use Rattle.scope.specs.Table.{son}
 use Rattle.fire_aim.proofs.aim_w.Goals as goal

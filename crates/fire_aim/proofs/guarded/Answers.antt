@@ -1,6 +1,5 @@
 -- `fire_aim::guarded` meets its contract. Assumes nothing.
 use mathlib.Core.Path.{sym}
-use borrow.Author.Rules.{rules}
 use Rattle.scope.specs.Rules.{guard_at}
 use Rattle.fire_aim.proofs.guarded.Goals as goal
 

@@ -1,6 +1,5 @@
 -- `fire_aim::judge` meets its contract. Assumes nothing.
 use mathlib.Core.Path.{sym}
-use borrow.Author.Rules.{rules}
 use Rattle.scope.specs.Fire.{judged}
 use Rattle.fire_aim.proofs.judge.Goals as goal
 

@@ -1,7 +1,6 @@
 -- `fire_aim::take` meets its contract. Assumes nothing.
 use mathlib.Core.Path.{sym}
 use borrow.Author.Tests.{eq-eqb, ne_eqb}
-use borrow.Author.Rules.{rules}
 use Rattle.scope.specs.Fire.{take_of}
 use Rattle.fire_aim.proofs.take.Goals as goal
 

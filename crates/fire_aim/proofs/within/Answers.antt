@@ -1,6 +1,5 @@
 -- `fire_aim::within` meets its contract. Assumes nothing.
 use mathlib.Core.Path.{sym, ◌∙◌}
-use borrow.Author.Rules.{rules}
 use Rattle.fire_guards.proofs.Limit.{height-within, height-above}
 use Rattle.scope.specs.Rules.{highest_at}
 use Rattle.fire_aim.proofs.within.Goals as goal

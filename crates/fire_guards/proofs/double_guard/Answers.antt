@@ -1,5 +1,4 @@
 -- `fire_guards::double_guard` meets its contract. Assumes nothing.
-use borrow.Author.Rules.{rules}
 use Rattle.fire_guards.proofs.double_guard.Goals as goal
 
 pub returns : goal.returns

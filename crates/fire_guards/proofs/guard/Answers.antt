@@ -1,5 +1,4 @@
 -- `fire_guards::guard` meets its contract. Assumes nothing.
-use borrow.Author.Rules.{rules}
 use Rattle.fire_guards.proofs.guard.Goals as goal
 
 pub returns-in-Propagate : goal.returns-in-Propagate

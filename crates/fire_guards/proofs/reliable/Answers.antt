@@ -1,5 +1,4 @@
 -- `fire_guards::reliable` meets its contract. Assumes nothing.
-use borrow.Author.Rules.{rules}
 use Rattle.fire_guards.proofs.reliable.Goals as goal
 
 pub returns : goal.returns

@@ -1,5 +1,4 @@
 -- `fire_guards::seen` meets its contract. Assumes nothing.
-use borrow.Author.Rules.{rules}
 use Rattle.fire_guards.proofs.seen.Goals as goal
 
 pub returns : goal.returns

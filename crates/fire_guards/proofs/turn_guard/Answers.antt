@@ -1,5 +1,4 @@
 -- `fire_guards::turn_guard` meets its contract. Assumes nothing.
-use borrow.Author.Rules.{rules}
 use Rattle.fire_guards.proofs.Turning.{turn-guard}
 use Rattle.fire_guards.proofs.turn_guard.Goals as goal
 

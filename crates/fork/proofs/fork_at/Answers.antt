@@ -1,6 +1,5 @@
 -- `fork::fork_at` meets its contract. Assumes nothing.
 use mathlib.Core.Path.{sym}
-use borrow.Author.Rules.{rules}
 use Rattle.fork.proofs.fork_at.Goals as goal
 
 pub returns : goal.returns

@@ -1,6 +1,5 @@
 -- `in_order::order_in` meets its contract. Assumes nothing.
 use native.Mathlib.Omega.{arith}
-use borrow.Author.Rules.{rules}
 use Rattle.in_order.proofs.Walks.{none-listed, whole_room, all-in-order}
 use Rattle.in_order.proofs.order_in.Goals as goal
 

@@ -2,7 +2,6 @@
 use Prim.Native.Nat.{◌%◌, ◌<◌}
 use native.Mathlib.Omega.{arith}
 use lib.ListN.{length-set}
-use borrow.Author.Rules.{rules}
 use Rattle.marks.proofs.Bits.{mask, marks}
 use Rattle.marks.proofs.mark.Goals as goal
 

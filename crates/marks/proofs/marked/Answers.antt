@@ -4,7 +4,6 @@ use mathlib.Core.Path.{ap}
 use lib.Bits.{and_mask}
 use lib.ListN.{get_or}
 use lib.Dec.{eqb}
-use borrow.Author.Rules.{rules}
 use Rattle.marks.specs.Marks.{bit_at}
 use Rattle.marks.proofs.marked.Goals as goal
 

@@ -1,7 +1,6 @@
 -- `marks::past` meets its contract. Assumes nothing.
 use mathlib.Core.Path.{refl}
 use Rattle.marks.proofs.Passing.{past_word, past_one}
-use borrow.Author.Rules.{rules}
 use Rattle.marks.proofs.past.Goals as goal
 
 pub returns-then-m-at : goal.returns-then-m-at

@@ -1,7 +1,6 @@
 -- `post::hang` meets its contract. Assumes nothing.
 use mathlib.Core.Path.{sym}
 use native.Mathlib.Omega.{arith}
-use borrow.Author.Rules.{rules}
 use Rattle.spelling.proofs.Laws.{link-lt}
 use Rattle.post.proofs.Written.{hung-by}
 use Rattle.post.proofs.hang.Goals as goal

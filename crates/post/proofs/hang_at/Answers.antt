@@ -1,5 +1,4 @@
 -- `post::hang_at` meets its contract. Assumes nothing.
-use borrow.Author.Rules.{rules}
 use Rattle.post.proofs.Hanging.{hang-none, hang-damaged, hang-last, hang-here}
 use Rattle.post.proofs.hang_at.Goals as goal
 

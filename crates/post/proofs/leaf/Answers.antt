@@ -1,5 +1,4 @@
 -- `post::leaf` meets its contract. Assumes nothing.
-use borrow.Author.Rules.{rules}
 use Rattle.post.proofs.leaf.Goals as goal
 
 pub returns : goal.returns

@@ -1,6 +1,5 @@
 -- `post::plan_post` meets its contract. Assumes nothing.
 use mathlib.Core.Path.{sym, ◌∙◌}
-use borrow.Author.Rules.{rules}
 use Rattle.scope.specs.Post.{post_plan}
 use Rattle.spelling.proofs.Laws.{gate-ready}
 use Rattle.post.proofs.plan_post.Goals as goal

@@ -1,6 +1,5 @@
 -- `post::post` meets its contract. Assumes nothing.
 use mathlib.Core.Path.{refl}
-use borrow.Author.Rules.{rules}
 use Rattle.scope.specs.Post.{post_of, posted}
 use Rattle.gate.proofs.Carried.{carried}
 use Rattle.post.proofs.post.Goals as goal

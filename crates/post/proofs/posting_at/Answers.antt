@@ -1,6 +1,5 @@
 -- `post::posting_at` meets its contract. Assumes nothing.
 use mathlib.Core.Path.{sym}
-use borrow.Author.Rules.{rules}
 use Rattle.scope.specs.Post.{posting_at}
 use Rattle.post.proofs.posting_at.Goals as goal
 

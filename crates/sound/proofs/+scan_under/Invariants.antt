@@ -1,10 +1,6 @@
 -- `sound::scan` and `sound::under` meet their contracts. Assumes nothing.
-use Prim.Native.Nat.{ℕ, ◌+◌, ◌*◌, ◌<◌}
-use native.Mathlib.Omega.{arith}
-use borrow.Author.Rules.{rules}
-use Rattle.sound.proofs.Along.{Along, along-start, along-spent, along-refused, along-left}
-use Rattle.sound.proofs.Along.{along-spoiled, along-less, along-end, along-right}
-use Rattle.sound.proofs.Steps.{at_end, is-left}
+use Prim.Native.Nat.{◌+◌, ◌*◌}
+use Rattle.sound.proofs.Along.{Along}
 use Rattle.sound.proofs.+scan_under.Given as goal
 
 abbrev pub decreases-scan : goal.decreases-scan

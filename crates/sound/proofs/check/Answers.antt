@@ -2,7 +2,6 @@
 use Rattle.scope.specs.Sums.{check_answer}
 use Rattle.spelling.proofs.Opened.{opened, headed}
 use mathlib.Core.Path.{refl, sym}
-use borrow.Author.Rules.{rules}
 use Rattle.sound.proofs.check.Goals as goal
 
 pub told-requires : goal.told-requires

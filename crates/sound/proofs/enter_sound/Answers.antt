@@ -2,7 +2,6 @@
 use mathlib.Core.Path.{sym, ◌∙◌}
 use Rattle.spelling.proofs.Laws.{gate-ready}
 use Rattle.spelling.proofs.Opened.{shut-too, open-too}
-use borrow.Author.Rules.{rules}
 use Rattle.sound.proofs.enter_sound.Goals as goal
 
 pub sound-requires : goal.sound-requires

@@ -1,7 +1,6 @@
 -- `sound::in_place` meets its contract. Assumes nothing.
 use Rattle.sound.specs.Scan.{in_place}
 use mathlib.Core.Path.{sym}
-use borrow.Author.Rules.{rules}
 use Rattle.sound.proofs.in_place.Goals as goal
 
 pub returns : goal.returns

@@ -1,9 +1,6 @@
 -- `sound::rest_blank` meets its contract. Assumes nothing.
-use Prim.Native.Nat.{ℕ, ◌+◌, ◌-◌, ◌≤◌, ◌<◌}
-use mathlib.Core.Path.{◌≡◌, sym, ◌∙◌}
-use mathlib.Core.Bool.{true}
+use mathlib.Core.Path.{sym, ◌∙◌}
 use native.Mathlib.Omega.{arith}
-use Rattle.sound.specs.Scan.{settled_at}
 use Rattle.sound.proofs.Ends.{settled-past}
 use Rattle.sound.proofs.rest_blank.Goals as goal
 

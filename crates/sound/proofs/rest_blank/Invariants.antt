@@ -1,10 +1,8 @@
 -- `sound::rest_blank` meets its contract. Assumes nothing.
 use Prim.Native.Nat.{ℕ, ◌+◌, ◌-◌, ◌≤◌, ◌<◌}
-use mathlib.Core.Path.{◌≡◌, sym, ◌∙◌}
+use mathlib.Core.Path.{◌≡◌}
 use mathlib.Core.Bool.{true}
-use native.Mathlib.Omega.{arith}
 use Rattle.sound.specs.Scan.{settled_at}
-use Rattle.sound.proofs.Ends.{settled-past}
 use Rattle.sound.proofs.rest_blank.Given as goal
 
 abbrev pub invariant-loop-k : goal.invariant-loop-k

@@ -1,6 +1,5 @@
 -- `sound::settled` meets its contract. Assumes nothing.
 use mathlib.Core.Path.{sym}
-use borrow.Author.Rules.{rules}
 use Rattle.sound.specs.Scan.{settled_at}
 use Rattle.sound.proofs.settled.Goals as goal
 

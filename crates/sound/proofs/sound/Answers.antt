@@ -1,14 +1,10 @@
 -- `sound::sound` meets its contract. Assumes nothing.
 use mathlib.Core.Path.{refl, sym, ◌∙◌}
 use native.Mathlib.Omega.{arith}
-use borrow.Author.Rules.{rules}
 use Rattle.spelling.proofs.Laws.{header-root, header-count}
 use Rattle.marks.proofs.Laws.{no-marks}
 use Rattle.sound.proofs.Ends.{by-missing, by-pass}
 use Rattle.spelling.proofs.Once.{by-header}
-use Rattle.gate.proofs.header_ok.Reads as header-ok-reads
-use Rattle.words.proofs.records.Reads as records-reads
-use Rattle.words.proofs.root.Reads as root-reads
 use Rattle.sound.proofs.sound.Goals as goal
 
 pub from_root-missing-requires : goal.from_root-missing-requires

@@ -1,5 +1,4 @@
 -- `sound::visit` meets its contract. Assumes nothing.
-use borrow.Author.Rules.{rules}
 use Rattle.sound.proofs.Steps.{twice, misplaced, slot-entered}
 use Rattle.sound.proofs.visit.Goals as goal
 

@@ -1,5 +1,4 @@
 -- `text_list::list_answer` meets its contract. Assumes nothing.
-use borrow.Author.Rules.{rules}
 use Rattle.text_list.proofs.list_answer.Goals as goal
 
 pub returns : goal.returns

@@ -1,10 +1,8 @@
 -- `text_list::put_all` meets its contract. Assumes nothing.
-use Prim.Native.Nat.{◌-◌, ◌≤◌}
-use mathlib.Core.Path.{◌≡◌, refl, ◌∙◌}
+use mathlib.Core.Path.{refl, ◌∙◌}
 use native.Mathlib.Omega.{arith}
-use lib.ListN.{length}
 use Rattle.in_order.proofs.Slots.{listed-few, listed-slot}
-use Rattle.text_list.proofs.Records.{FirstPut, first-none, first_more, first-all}
+use Rattle.text_list.proofs.Records.{first-none, first_more, first-all}
 use Rattle.text_list.proofs.put_all.Goals as goal
 
 pub loop-i-init : goal.loop-i-init

@@ -1,7 +1,6 @@
 -- `text_list::put_list` meets its contract. Assumes nothing.
 use mathlib.Core.Path.{sym}
 use native.Mathlib.Omega.{arith}
-use borrow.Author.Rules.{rules}
 use Rattle.spelling.proofs.Opened.{opened}
 use Rattle.text_list.specs.List.{list_text}
 use Rattle.text_list.proofs.Records.{wider}

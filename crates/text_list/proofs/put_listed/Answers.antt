@@ -1,5 +1,4 @@
 -- `text_list::put_listed` meets its contract. Assumes nothing.
-use borrow.Author.Rules.{rules}
 use Rattle.text_list.specs.List.{listed}
 use Rattle.text_print.proofs.Laid.{both-put}
 use Rattle.text_list.proofs.put_listed.Goals as goal

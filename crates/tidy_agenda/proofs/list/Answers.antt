@@ -3,7 +3,6 @@ use Prim.Native.Nat.{◌/◌, ◌%◌, ◌<◌}
 use native.Mathlib.Omega.{arith}
 use Rattle.marks.proofs.Bits.{mask}
 use Rattle.tidy_agenda.proofs.Puts.{newly-listed}
-use borrow.Author.Rules.{rules}
 use Rattle.tidy_agenda.proofs.list.Goals as goal
 
 pub returns : goal.returns

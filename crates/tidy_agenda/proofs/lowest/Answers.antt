@@ -1,7 +1,6 @@
 -- `tidy_agenda::lowest` meets its contract. Assumes nothing.
 use Rattle.tidy_agenda.proofs.Seeking.{word_some, lowest-none, lowest-slot}
 use native.Mathlib.Omega.{arith}
-use borrow.Author.Rules.{rules}
 use Rattle.tidy_agenda.proofs.lowest.Goals as goal
 
 pub returns-then-m-eq0 : goal.returns-then-m-eq0

@@ -3,7 +3,6 @@ use Prim.Native.Nat.{◌/◌, ◌%◌, ◌<◌}
 use native.Mathlib.Omega.{arith}
 use Rattle.marks.proofs.Bits.{mask}
 use Rattle.tidy_agenda.proofs.Puts.{struck-last, struck-within}
-use borrow.Author.Rules.{rules}
 use Rattle.tidy_agenda.proofs.strike.Goals as goal
 
 pub returns-then-w-eq0 : goal.returns-then-w-eq0

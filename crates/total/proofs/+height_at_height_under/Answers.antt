@@ -1,8 +1,7 @@
 -- `total::height_at` and `total::height_under` meet their contracts. Assumes nothing.
-use Prim.Native.Nat.{ℕ, ◌+◌, ◌*◌, ◌<◌}
 use native.Mathlib.Omega.{arith}
 use Rattle.scope.specs.Tree.{true_height}
-use Rattle.fork.proofs.Down.{Forked, in_reach, forked, says-leaf}
+use Rattle.fork.proofs.Down.{in_reach, forked, says-leaf}
 use Rattle.total.proofs.Walks.{heights-few, height-here}
 use Rattle.total.proofs.+height_at_height_under.Goals as goal
 

@@ -1,8 +1,6 @@
 -- `total::total_at` and `total::total_under` meet their contracts. Assumes nothing.
-use Prim.Native.Nat.{ℕ, ◌+◌, ◌*◌, ◌<◌}
 use native.Mathlib.Omega.{arith}
-use borrow.Author.Rules.{rules}
-use Rattle.fork.proofs.Down.{Forked, in_reach, forked}
+use Rattle.fork.proofs.Down.{in_reach, forked}
 use Rattle.total.proofs.Walks.{nothing-added, adding-left, adding-right, total_here}
 use Rattle.total.proofs.+total_at_total_under.Goals as goal
 

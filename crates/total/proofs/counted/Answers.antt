@@ -1,6 +1,5 @@
 -- `total::counted` meets its contract. Assumes nothing.
 use mathlib.Core.Path.{sym}
-use borrow.Author.Rules.{rules}
 use borrow.Author.Tests.{le-leb, lt-leb}
 use Rattle.total.proofs.counted.Goals as goal
 

@@ -2,7 +2,6 @@
 use Rattle.spelling.proofs.Opened.{opened, headed}
 use Rattle.total.specs.Adding.{height_answer}
 use mathlib.Core.Path.{sym}
-use borrow.Author.Rules.{rules}
 use Rattle.total.proofs.height.Goals as goal
 
 pub height_in-requires : goal.height_in-requires

@@ -2,7 +2,6 @@
 use native.Mathlib.Omega.{arith}
 use Rattle.scope.specs.Tree.{true_height}
 use Rattle.fork.proofs.Down.{root-hangs, said, says-leaf}
-use borrow.Author.Rules.{rules}
 use Rattle.total.proofs.height_in.Goals as goal
 
 pub height_at-requires : goal.height_at-requires

@@ -2,7 +2,6 @@
 use Rattle.scope.specs.Sums.{total_answer}
 use Rattle.spelling.proofs.Opened.{opened, headed}
 use mathlib.Core.Path.{refl, sym}
-use borrow.Author.Rules.{rules}
 use Rattle.total.proofs.total.Goals as goal
 
 pub total_in-requires : goal.total_in-requires

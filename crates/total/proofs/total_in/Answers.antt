@@ -3,7 +3,6 @@ use native.Mathlib.Omega.{arith}
 use Rattle.scope.specs.Sums.{total_of}
 use Rattle.total.specs.Adding.{total_on}
 use Rattle.fork.proofs.Down.{root-hangs, said, says-leaf}
-use borrow.Author.Rules.{rules}
 use Rattle.total.proofs.total_in.Goals as goal
 
 pub total_at-requires : goal.total_at-requires

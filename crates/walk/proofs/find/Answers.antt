@@ -1,6 +1,5 @@
 -- `walk::find` meets its contract. Assumes nothing.
 use mathlib.Core.Path.{refl, ◌∙◌, sym}
-use borrow.Author.Rules.{rules}
 use Rattle.spelling.proofs.Laws.{gate-ready}
 use Rattle.scope.specs.Find.{find_answer}
 use Rattle.walk.proofs.find.Goals as goal

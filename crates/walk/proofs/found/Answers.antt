@@ -1,7 +1,6 @@
 -- `walk::found` meets its contract. Assumes nothing.
 use mathlib.Core.Path.{sym}
 use native.Mathlib.Omega.{arith}
-use borrow.Author.Rules.{rules}
 use Rattle.scope.specs.Find.{found_in}
 use Rattle.walk.proofs.found.Goals as goal
 

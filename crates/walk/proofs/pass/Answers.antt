@@ -1,5 +1,4 @@
 -- `walk::pass` meets its contract. Assumes nothing.
-use borrow.Author.Rules.{rules}
 use Rattle.walk.proofs.pass.Goals as goal
 
 pub returns-in-Left : goal.returns-in-Left

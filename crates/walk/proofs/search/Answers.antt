@@ -1,11 +1,9 @@
 -- `walk::search` meets its contract: the invariant is that the whole walk is what is still to be walked (`Heading`),
 use mathlib.Core.Path.{ap}
 use mathlib.Core.Bool.{not}
-use Prim.Native.Nat.{◌-◌}
 use native.Mathlib.Omega.{arith}
-use borrow.Author.Rules.{rules}
 use Rattle.spelling.proofs.Laws.{in_table}
-use Rattle.walk.proofs.Visits.{Heading, begins, ends-empty, ends-broken, ends-here, one_more, passes_on}
+use Rattle.walk.proofs.Visits.{begins, ends-empty, ends-broken, ends-here, one_more, passes_on}
 use Rattle.walk.proofs.search.Goals as goal
 
 -- and each way on or out is one law of it. Assumes nothing.

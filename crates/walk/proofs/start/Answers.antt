@@ -1,6 +1,5 @@
 -- `walk::start` meets its contract. Assumes nothing.
 use mathlib.Core.Path.{◌∙◌, ap, sym}
-use borrow.Author.Rules.{rules}
 use Rattle.scope.specs.Answers.{Done}
 use Rattle.walk.proofs.Started.{start-shut, start-open}
 use Rattle.walk.proofs.start.Goals as goal

@@ -1,5 +1,4 @@
 -- `fire_act::action::act` meets its contract. Assumes nothing.
-use borrow.Author.Rules.{rules}
 use Rattle.fire_act.proofs.Acting.{nodes-asked, acted}
 use Rattle.scope.specs.declared.rule.Kind.TheVariants.{Propagate, Lean, Even, Double}
 use Rattle.fire_act.proofs.action.act.Goals as goal

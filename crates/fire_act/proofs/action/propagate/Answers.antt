@@ -1,5 +1,4 @@
 -- `fire_act::action::propagate` meets its contract. Assumes nothing.
-use borrow.Author.Rules.{rules}
 use Rattle.fire_act.proofs.Actions.{propagate-written}
 use Rattle.fire_act.proofs.action.propagate.Goals as goal
 

@@ -1,5 +1,4 @@
 -- `fire_act::action::rotate` meets its contract. Assumes nothing.
-use borrow.Author.Rules.{rules}
 use Rattle.fire_act.proofs.Actions.{rotate-written}
 use Rattle.fire_act.proofs.action.rotate.Goals as goal
 

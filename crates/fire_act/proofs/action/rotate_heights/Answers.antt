@@ -1,5 +1,4 @@
 -- `fire_act::action::rotate_heights` meets its contract. Assumes nothing.
-use borrow.Author.Rules.{rules}
 use Rattle.fire_act.proofs.Actions.{heights-written}
 use Rattle.fire_act.proofs.action.rotate_heights.Goals as goal
 

@@ -1,5 +1,4 @@
 -- `fire_act::action::rotate_links` meets its contract. Assumes nothing.
-use borrow.Author.Rules.{rules}
 use Rattle.fire_act.proofs.Actions.{links-written}
 use Rattle.fire_act.proofs.action.rotate_links.Goals as goal
 

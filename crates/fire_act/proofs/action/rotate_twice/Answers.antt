@@ -1,5 +1,4 @@
 -- `fire_act::action::rotate_twice` meets its contract. Assumes nothing.
-use borrow.Author.Rules.{rules}
 use Rattle.fire_act.proofs.Actions.{all-written}
 use Rattle.fire_act.proofs.action.rotate_twice.Goals as goal
 

@@ -1,5 +1,4 @@
 -- `fire_act::action::twice_copied` meets its contract. Assumes nothing.
-use borrow.Author.Rules.{rules}
 use Rattle.fire_act.proofs.Actions.{copied-written}
 use Rattle.fire_act.proofs.action.twice_copied.Goals as goal
 

@@ -1,6 +1,5 @@
 -- `fire_act::action::twice_heights` meets its contract. Assumes nothing.
 use native.Mathlib.Omega.{arith}
-use borrow.Author.Rules.{rules}
 use Rattle.fire_act.proofs.Actions.{twice-written}
 use Rattle.fire_act.proofs.action.twice_heights.Goals as goal
 

@@ -1,5 +1,4 @@
 -- `fire_act::action::twice_sons` meets its contract. Assumes nothing.
-use borrow.Author.Rules.{rules}
 use Rattle.fire_act.proofs.Actions.{sons-written}
 use Rattle.fire_act.proofs.action.twice_sons.Goals as goal
 

@@ -1,5 +1,4 @@
 -- `fire_act::action::twice_top` meets its contract. Assumes nothing.
-use borrow.Author.Rules.{rules}
 use Rattle.fire_act.proofs.Actions.{top-written}
 use Rattle.fire_act.proofs.action.twice_top.Goals as goal
 

@@ -1,6 +1,5 @@
 -- `fire_act::put::copy_register` meets its contract. Assumes nothing.
 use native.Mathlib.Omega.{arith}
-use borrow.Author.Rules.{rules}
 use Rattle.fire_act.proofs.Writes.{register-at, kept_set}
 use Rattle.spelling.proofs.Laws.{register-lt}
 use Rattle.fire_act.proofs.put.copy_register.Goals as goal

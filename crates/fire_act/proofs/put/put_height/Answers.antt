@@ -1,6 +1,5 @@
 -- `fire_act::put::put_height` meets its contract. Assumes nothing.
 use native.Mathlib.Omega.{arith}
-use borrow.Author.Rules.{rules}
 use Rattle.fire_act.proofs.Writes.{register-at, kept_set}
 use Rattle.spelling.proofs.Laws.{register-lt}
 use Rattle.fire_act.proofs.put.put_height.Goals as goal

@@ -1,6 +1,5 @@
 -- `fire_act::put::put_top` meets its contract. Assumes nothing.
 use native.Mathlib.Omega.{arith}
-use borrow.Author.Rules.{rules}
 use Rattle.scope.specs.Table.{link_at}
 use Rattle.fire_act.proofs.Writes.{kept_set}
 use Rattle.spelling.proofs.Laws.{link-lt}

@@ -1,6 +1,5 @@
 -- `gate::call::absent` meets its contract. Assumes nothing.
 use mathlib.Core.Path.{sym}
-use borrow.Author.Rules.{rules}
 use Rattle.gate.proofs.call.absent.Goals as goal
 
 pub returns : goal.returns

@@ -1,7 +1,6 @@
 -- `gate::call::capacity` meets its contract. Assumes nothing.
 use mathlib.Core.Path.{sym}
 use borrow.Author.Tests.{eq-eqb, ne_eqb}
-use borrow.Author.Rules.{rules}
 use Rattle.scope.specs.Table.{slots_in}
 use Rattle.gate.proofs.call.capacity.Goals as goal
 

@@ -1,7 +1,6 @@
 -- `gate::call::enter` meets its contract. Assumes nothing.
 use mathlib.Core.Path.{◌∙◌, sym}
 use native.Mathlib.Omega.{arith}
-use borrow.Author.Rules.{rules}
 use Rattle.spelling.proofs.Laws.{slots-room}
 use Rattle.scope.specs.Answers.{gate}
 use Rattle.gate.proofs.call.enter.Goals as goal

@@ -1,6 +1,5 @@
 -- `gate::call::refuse` meets its contract. Assumes nothing.
 use mathlib.Core.Path.{sym}
-use borrow.Author.Rules.{rules}
 use Rattle.gate.proofs.call.refuse.Goals as goal
 
 pub returns : goal.returns

@@ -1,5 +1,4 @@
 -- `gate::next_change` meets its contract. Assumes nothing.
-use borrow.Author.Rules.{rules}
 use Rattle.gate.proofs.ending.next_change.Goals as goal
 
 pub returns : goal.returns

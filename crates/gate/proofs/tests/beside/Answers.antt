@@ -2,7 +2,6 @@
 use mathlib.Core.Path.{sym}
 use native.Mathlib.Omega.{arith}
 use Rattle.gate.proofs.Fitting.{burden-le}
-use borrow.Author.Rules.{rules}
 use Rattle.gate.proofs.tests.beside.Goals as goal
 
 pub overflow_add-result : goal.overflow_add-result

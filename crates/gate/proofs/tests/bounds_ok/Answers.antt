@@ -1,6 +1,5 @@
 -- `gate::tests::bounds_ok` meets its contract. Assumes nothing.
 use Rattle.gate.proofs.Fitting.{bounds-together}
-use borrow.Author.Rules.{rules}
 use Rattle.gate.proofs.tests.bounds_ok.Goals as goal
 
 pub returns : goal.returns

@@ -1,5 +1,4 @@
 -- `gate::tests::burden` meets its contract. Assumes nothing.
-use borrow.Author.Rules.{rules}
 use borrow.Author.Tests.{eq-eqb, ne_eqb}
 use Rattle.gate.proofs.tests.burden.Goals as goal
 

@@ -1,5 +1,4 @@
 -- `gate::tests::ends_ok` meets its contract. Assumes nothing.
-use borrow.Author.Rules.{rules}
 use Rattle.gate.proofs.Fitting.{ends-together}
 use Rattle.gate.proofs.tests.ends_ok.Goals as goal
 

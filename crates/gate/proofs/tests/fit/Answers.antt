@@ -2,7 +2,6 @@
 use mathlib.Core.Path.{refl}
 use native.Mathlib.Omega.{arith}
 use borrow.Author.Tests.{le-leb}
-use borrow.Author.Rules.{rules}
 use Rattle.gate.proofs.tests.fit.Goals as goal
 
 pub returns : goal.returns

@@ -1,6 +1,5 @@
 -- `gate::tests::header_ok` meets its contract. Assumes nothing.
 use Rattle.gate.proofs.Fitting.{header-together}
-use borrow.Author.Rules.{rules}
 use Rattle.gate.proofs.tests.header_ok.Goals as goal
 
 pub returns : goal.returns

@@ -1,6 +1,5 @@
 -- `gate::tests::record_ok` meets its contract. Assumes nothing.
 use mathlib.Core.Path.{sym}
-use borrow.Author.Rules.{rules}
 use Rattle.scope.specs.Fit.{record_ok}
 use Rattle.gate.proofs.tests.record_ok.Goals as goal
 

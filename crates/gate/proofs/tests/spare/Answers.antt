@@ -1,6 +1,5 @@
 -- `gate::tests::spare` meets its contract. Assumes nothing.
 use mathlib.Core.Path.{refl}
-use borrow.Author.Rules.{rules}
 use Rattle.gate.proofs.tests.spare.Goals as goal
 
 pub returns : goal.returns

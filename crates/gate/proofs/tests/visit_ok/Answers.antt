@@ -2,7 +2,6 @@
 use mathlib.Core.Path.{refl, sym}
 use borrow.Author.Tests.{eq-eqb, ne_eqb}
 use Rattle.gate.proofs.Fitting.{visit-together}
-use borrow.Author.Rules.{rules}
 use Rattle.gate.proofs.tests.visit_ok.Goals as goal
 
 pub returns-then-bounds_ok : goal.returns-then-bounds_ok

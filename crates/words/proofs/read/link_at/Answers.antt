@@ -1,6 +1,5 @@
 -- `words::read::link_at` meets its contract. Assumes nothing.
 use mathlib.Core.Path.{sym}
-use borrow.Author.Rules.{rules}
 use Rattle.words.proofs.read.link_at.Goals as goal
 
 pub returns : goal.returns

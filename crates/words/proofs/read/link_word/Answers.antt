@@ -1,6 +1,5 @@
 -- `words::read::link_word` meets its contract. Assumes nothing.
 use borrow.Author.Tests.{eq-eqb, ne_eqb}
-use borrow.Author.Rules.{rules}
 use Rattle.scope.specs.Table.{link_at}
 use Rattle.words.proofs.read.link_word.Goals as goal
 

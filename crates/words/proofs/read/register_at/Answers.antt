@@ -1,5 +1,4 @@
 -- `words::read::register_at` meets its contract. Assumes nothing.
-use borrow.Author.Rules.{rules}
 use Rattle.words.proofs.read.register_at.Goals as goal
 
 pub returns-in-Left : goal.returns-in-Left

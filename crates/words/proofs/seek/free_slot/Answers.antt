@@ -1,9 +1,6 @@
 -- `words::seek::free_slot` meets its contract. Assumes nothing.
-use Prim.Native.Nat.{◌-◌}
 use native.Mathlib.Omega.{arith}
-use lib.ListN.{length}
-use borrow.Author.Rules.{rules}
-use Rattle.words.proofs.Seeking.{AtPlace, place-start, place_here, place-on, place_end}
+use Rattle.words.proofs.Seeking.{place-start, place_here, place-on, place_end}
 use Rattle.words.proofs.seek.free_slot.Goals as goal
 
 pub loop-b-init : goal.loop-b-init

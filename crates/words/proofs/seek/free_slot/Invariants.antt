@@ -1,9 +1,7 @@
 -- `words::seek::free_slot` meets its contract. Assumes nothing.
 use Prim.Native.Nat.{◌-◌}
-use native.Mathlib.Omega.{arith}
 use lib.ListN.{length}
-use borrow.Author.Rules.{rules}
-use Rattle.words.proofs.Seeking.{AtPlace, place-start, place_here, place-on, place_end}
+use Rattle.words.proofs.Seeking.{AtPlace}
 use Rattle.words.proofs.seek.free_slot.Given as goal
 
 abbrev pub invariant-loop-b : goal.invariant-loop-b

@@ -1,6 +1,5 @@
 -- `words::write::put_link` meets its contract. Assumes nothing.
 use mathlib.Core.Path.{sym}
-use borrow.Author.Rules.{rules}
 use Rattle.words.proofs.write.put_link.Goals as goal
 
 pub returns : goal.returns

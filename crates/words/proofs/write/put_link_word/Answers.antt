@@ -1,6 +1,5 @@
 -- `words::write::put_link_word` meets its contract. Assumes nothing.
 use mathlib.Core.Path.{sym}
-use borrow.Author.Rules.{rules}
 use Rattle.words.proofs.write.put_link_word.Goals as goal
 
 pub returns : goal.returns

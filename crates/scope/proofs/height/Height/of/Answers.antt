@@ -1,6 +1,5 @@
 -- `scope::height::Height::of` meets its contract. Assumes nothing.
 use borrow.Author.Tests.{le-leb, lt-leb}
-use borrow.Author.Rules.{rules}
 use Rattle.scope.specs.Numbers.{height_of}
 use Rattle.scope.proofs.height.Height.of.Goals as goal
 

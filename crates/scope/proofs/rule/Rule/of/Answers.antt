@@ -1,6 +1,5 @@
 -- `scope::rule::Rule::of` meets its contract. Assumes nothing.
 use borrow.Author.Tests.{ne_eqb}
-use borrow.Author.Rules.{rules}
 use Rattle.scope.specs.Numbers.{rule_of}
 use Rattle.scope.proofs.rule.Rule.of.Goals as goal
 

@@ -1,7 +1,6 @@
 -- `scope::side::Link::of` meets its contract. Assumes nothing.
 use mathlib.Core.Path.{sym}
 use borrow.Author.Tests.{lt-ltb, le-ltb}
-use borrow.Author.Rules.{rules}
 use Rattle.scope.specs.Numbers.{link_of}
 use Rattle.scope.proofs.side.Link.of.Goals as goal
 
