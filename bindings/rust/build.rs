@@ -1,7 +1,7 @@
-//! Links the proved library, from target/staticlib or from the folder that PANEL_DIR names.
+//! Links the proved library, from crates/panel/out or from the folder that PANEL_DIR names.
 
 fn main() {
-    let usual = format!("{}/../../target/staticlib", env!("CARGO_MANIFEST_DIR"));
+    let usual = format!("{}/../../crates/panel/out", env!("CARGO_MANIFEST_DIR"));
     let dir = std::env::var("PANEL_DIR").unwrap_or(usual);
     println!("cargo:rustc-link-search=native={dir}");
     println!("cargo:rustc-link-lib=static=panel");

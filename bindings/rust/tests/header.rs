@@ -152,7 +152,7 @@ fn a_refusal_has_one_name_and_code_in_rattle_c_and_rust() {
     assert_eq!(variants.into_iter().filter(|name| !name.is_empty()).collect::<Vec<_>>(), names);
 
     let defined = file("../../crates/scope/specs/Answers.antt");
-    let codes = defined.lines().filter_map(|line| line.strip_prefix("codeOf ")?.split_once(" = "));
+    let codes = defined.lines().filter_map(|line| line.strip_prefix("code_of ")?.split_once(" = "));
     let codes: Vec<(String, u64)> =
         codes.map(|(name, code)| (name.to_string(), code.parse().expect("a code"))).collect();
     assert_eq!(codes, rust);
