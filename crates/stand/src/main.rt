@@ -2,5 +2,5 @@
 #![tactic(auto)]
 
 fn main(rt: HostRuntime) {
-    stand_shift::run::run(&mut rt.stdin(), &mut rt.stdout());
+    let _ = stand_shift::run::run(&mut rt.stdin(), &mut rt.stdout());
 }

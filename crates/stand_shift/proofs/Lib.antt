@@ -2,3 +2,4 @@
 pub mod Runs
 pub mod Filling
 pub mod Telling
+pub mod Written

@@ -54,7 +54,7 @@ told-all {s} {t} {from} w h l =
     (sym (ap length x ∙ w.count), sym (ap (λ (r : Run). r.table) e))
 
 -- an input that is too long is refused, however it goes on
-refused : (s : List ℕ) → most_input < length s → run_text s ≡ refused_text
+pub refused : (s : List ℕ) → most_input < length s → run_text s ≡ refused_text
 unfolding run_text
 refused s h = rw (lt-ltb most_input (length s) h)
 
