@@ -3,6 +3,8 @@
 #![tactic(auto)]
 
 use scope::{Answer, Head, Slot};
+use std::io;
+use std::io::Print;
 
 // The words of tables of three and of four slots.
 const THREE: usize = Head::WORDS + 3 * Slot::WORDS;
@@ -12,118 +14,117 @@ const FOUR: usize = Head::WORDS + 4 * Slot::WORDS;
 // Where the left register of slot 2 stands.
 const SECOND_LEFTH: usize = Head::WORDS + Slot::WORDS + Slot::LEFTH;
 
-fn number(n: u64) {
-    io::print_decimal(1, n);
-    io::write_all(1, b" ");
+fn number(rt: &impl Print, n: u64) -> io::Result<()> {
+    print!(rt; "{n} ")
 }
 
-fn end_line() {
-    io::write_all(1, b"\n");
+fn end_line(rt: &impl Print) -> io::Result<()> {
+    println!(rt)
 }
 
-fn say(a: Answer) {
-    number(a.code);
-    number(a.change);
-    number(a.value);
-    number(a.more);
-    number(a.kind);
-    end_line();
+fn say(rt: &impl Print, a: Answer) -> io::Result<()> {
+    number(rt, a.code)?;
+    number(rt, a.change)?;
+    number(rt, a.value)?;
+    number(rt, a.more)?;
+    number(rt, a.kind)?;
+    end_line(rt)
 }
 
 // All words of a table.
-fn show(t: &[u32]) {
+fn show(rt: &impl Print, t: &[u32]) -> io::Result<()> {
     let mut i = 0;
     while i < t.len() {
-        number(words::long(t[i]));
+        number(rt, words::long(t[i]))?;
         i += 1;
     }
-    end_line();
+    end_line(rt)
 }
 
 // Posts one piece poured at a stamp.
-fn pour(t: &mut [u32], key: u32) {
-    say(index::post(t, key, 1, 1));
+fn pour(rt: &impl Print, t: &mut [u32], key: u32) -> io::Result<()> {
+    say(rt, index::post(t, key, 1, 1))
 }
 
 // The worth, and one firing.
-fn fire_once(t: &mut [u32]) {
-    say(index::worth(t));
-    say(index::tidy(t, 1));
+fn fire_once(rt: &impl Print, t: &mut [u32]) -> io::Result<()> {
+    say(rt, index::worth(t))?;
+    say(rt, index::tidy(t, 1))
 }
 
 // Four firings, with the worth before and after each.
-fn fire_four(t: &mut [u32]) {
-    fire_once(t);
-    fire_once(t);
-    fire_once(t);
-    fire_once(t);
-    say(index::worth(t));
+fn fire_four(rt: &impl Print, t: &mut [u32]) -> io::Result<()> {
+    fire_once(rt, t)?;
+    fire_once(rt, t)?;
+    fire_once(rt, t)?;
+    fire_once(rt, t)?;
+    say(rt, index::worth(t))
 }
 
-fn m1() {
+fn m1(rt: &impl Print) -> io::Result<()> {
     let mut t = [0u32; THREE];
-    say(index::post(&mut t, 480, 1200, 1));
-    say(index::post(&mut t, 510, 900, 1));
-    say(index::post(&mut t, 540, 750, 1));
-    fire_four(&mut t);
-    show(&t);
+    say(rt, index::post(&mut t, 480, 1200, 1))?;
+    say(rt, index::post(&mut t, 510, 900, 1))?;
+    say(rt, index::post(&mut t, 540, 750, 1))?;
+    fire_four(rt, &mut t)?;
+    show(rt, &t)
 }
 
-fn m2() {
+fn m2(rt: &impl Print) -> io::Result<()> {
     let mut t = [0u32; THREE];
-    pour(&mut t, 540);
-    pour(&mut t, 480);
-    pour(&mut t, 510);
-    say(index::tidy(&mut t, 10));
-    say(total::height(&t));
-    show(&t);
+    pour(rt, &mut t, 540)?;
+    pour(rt, &mut t, 480)?;
+    pour(rt, &mut t, 510)?;
+    say(rt, index::tidy(&mut t, 10))?;
+    say(rt, total::height(&t))?;
+    show(rt, &t)
 }
 
 // The four postings of M3 and M4.
-fn pour_four(t: &mut [u32]) {
-    pour(t, 40);
-    pour(t, 20);
-    pour(t, 10);
-    pour(t, 30);
+fn pour_four(rt: &impl Print, t: &mut [u32]) -> io::Result<()> {
+    pour(rt, t, 40)?;
+    pour(rt, t, 20)?;
+    pour(rt, t, 10)?;
+    pour(rt, t, 30)
 }
 
-fn m3() {
+fn m3(rt: &impl Print) -> io::Result<()> {
     let mut t = [0u32; FOUR];
-    pour_four(&mut t);
-    say(index::worth(&t));
-    say(index::tidy(&mut t, 10));
-    say(total::height(&t));
-    show(&t);
+    pour_four(rt, &mut t)?;
+    say(rt, index::worth(&t))?;
+    say(rt, index::tidy(&mut t, 10))?;
+    say(rt, total::height(&t))?;
+    show(rt, &t)
 }
 
-fn m4() {
+fn m4(rt: &impl Print) -> io::Result<()> {
     let mut t = [0u32; FOUR];
-    pour_four(&mut t);
-    say(index::fire(&mut t, 1, 1, 0));
-    say(index::fire(&mut t, 2, 1, 0));
-    say(index::fire(&mut t, 1, 0, 0));
-    say(index::fire(&mut t, 3, 0, 0));
-    say(index::worth(&t));
-    say(index::fire(&mut t, 5, 0, 0));
-    say(index::worth(&t));
+    pour_four(rt, &mut t)?;
+    say(rt, index::fire(&mut t, 1, 1, 0))?;
+    say(rt, index::fire(&mut t, 2, 1, 0))?;
+    say(rt, index::fire(&mut t, 1, 0, 0))?;
+    say(rt, index::fire(&mut t, 3, 0, 0))?;
+    say(rt, index::worth(&t))?;
+    say(rt, index::fire(&mut t, 5, 0, 0))?;
+    say(rt, index::worth(&t))
 }
 
 // A chain to the left whose second node's left register is `height`; rule 1 at the root.
-fn m6(height: u32) {
+fn m6(rt: &impl Print, height: u32) -> io::Result<()> {
     let mut t = [0u32; THREE];
-    pour(&mut t, 30);
-    pour(&mut t, 20);
-    pour(&mut t, 10);
+    pour(rt, &mut t, 30)?;
+    pour(rt, &mut t, 20)?;
+    pour(rt, &mut t, 10)?;
     t[SECOND_LEFTH] = height;
-    say(index::fire(&mut t, 1, 0, 0));
-    show(&t);
+    say(rt, index::fire(&mut t, 1, 0, 0))?;
+    show(rt, &t)
 }
 
-fn main() {
-    m1();
-    m2();
-    m3();
-    m4();
-    m6(65535);
-    m6(65534);
+fn main(rt: HostRuntime) -> io::Result<()> {
+    m1(&rt)?;
+    m2(&rt)?;
+    m3(&rt)?;
+    m4(&rt)?;
+    m6(&rt, 65535)?;
+    m6(&rt, 65534)
 }

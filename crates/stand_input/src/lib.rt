@@ -1,9 +1,10 @@
-// Standard input, read to its end into a buffer.
+// An input, read to its end into a buffer.
 #![tactic(auto)]
 
-ghost use Rattle.std.specs.Prelude.{◌≡◌, false, ◌+◌, ◌≤◌, length, take};
+ghost use Rattle.std.specs.Prelude.{◌≡◌, true, false, ◌+◌, ◌≤◌, ◌<◌, length, take, drop};
+ghost use Rattle.std.specs.Io.KnownBytes.{Consumes, IsAtEnd};
 
-use libc::STDIN_FILENO;
+use std::io::Read;
 
 // What came of one read.
 #[derive(Clone, Copy)]
@@ -12,30 +13,38 @@ pub struct Got {
     pub failed: bool,
 }
 
-// Reads once into buf: no bytes at the end of the input.
-pub fn read_once(buf: &mut [u8]) -> Got
-    ensures { result.count ≤ length buf.old }
+// Reads once into buf: no bytes at the end of the input, and none where the read failed. Where it is known what the
+// reader had left, those bytes come from there.
+pub fn read_once<R: Read>(reader: &mut R, buf: &mut [u8]) -> Got
+    ensures count_in_bounds { result.count ≤ length buf.old }
+    ensures bytes { Consumes (R.remaining reader.old) (R.remaining reader.new)
+        (take result.count buf.new) }
+    ensures end { result.failed ≡ false → result.count ≡ 0 → 0 < length buf.old
+        → IsAtEnd (R.remaining reader.new) }
 {
-    let got = libc::read(STDIN_FILENO, buf);
-    if got < 0 {
-        return Got {
+    match reader.read(buf) {
+        Ok(count) => Got {
+            count,
+            failed: false,
+        },
+        Err(_) => Got {
             count: 0,
             failed: true,
-        };
-    }
-    Got {
-        count: io::count(got, buf),
-        failed: false,
+        },
     }
 }
 
 // Reads once into buf from n on, and keeps what stands before.
-pub fn read_at(buf: &mut [u8], n: usize) -> Got
+pub fn read_at<R: Read>(reader: &mut R, buf: &mut [u8], n: usize) -> Got
     requires { n ≤ length buf.old }
     ensures count_in_bounds { n + result.count ≤ length buf.old }
     ensures buf_unchanged { take n buf.new ≡ take n buf.old }
+    ensures bytes { Consumes (R.remaining reader.old) (R.remaining reader.new)
+        (take result.count (drop n buf.new)) }
+    ensures end { result.failed ≡ false → result.count ≡ 0 → n < length buf.old
+        → IsAtEnd (R.remaining reader.new) }
 {
-    read_once(&mut buf[n..])
+    read_once(reader, &mut buf[n..])
 }
 
 // What came of reading all: how many bytes, whether a read failed, and whether the input ended.
@@ -46,14 +55,17 @@ pub struct Input {
     pub ended: bool,
 }
 
-// Reads standard input until it ends, a read fails or buf is full.
-pub fn read_input(buf: &mut [u8]) -> Input
+// Reads an input until it ends, a read fails or buf is full.
+pub fn read_input<R: Read>(reader: &mut R, buf: &mut [u8]) -> Input
     ensures count_in_bounds { result.count ≤ length buf.old }
     ensures count_value { result.failed ≡ false → result.ended ≡ false → result.count ≡ length buf.old }
+    ensures bytes { Consumes (R.remaining reader.old) (R.remaining reader.new)
+        (take result.count buf.new) }
+    ensures end { result.ended ≡ true → IsAtEnd (R.remaining reader.new) }
 {
     let mut n = 0;
     while n < buf.len() {
-        let got = read_at(buf, n);
+        let got = read_at(reader, buf, n);
         if got.count == 0 {
             let failed = got.failed;
             return Input {

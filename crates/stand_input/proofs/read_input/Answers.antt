@@ -1,39 +1,25 @@
--- `stand_input::read_input` is safe and ends: a turn that reads nothing is the last. Assumes nothing.
-use Prim.Native.Nat.{◌-◌, ◌≤◌}
-use mathlib.Core.Path.{◌≡◌}
-use mathlib.Core.Bool.{Bool, true, false, not, true≢false}
-use native.Mathlib.Omega.{arith}
-use lib.ListN.{length}
+-- `stand_input::read_input` meets its contract: what two reads gave, one after the other, came from the reader. Assumes nothing.
+use Rattle.std.proofs.Common.{ℕ, List, ◌++◌, arith, append_assoc}
+use Rattle.std.proofs.Math.Seq.{take-add}
+use Rattle.std.specs.Prelude.{None, Some}
+use Rattle.std.specs.Io.KnownBytes.{Consumes}
+use Rattle.std.specs.declared.option.Option.{Option}
 use Rattle.stand_input.proofs.read_input.Goals as goal
 
--- a read that gave nothing failed, or the input ended
-not-both : (failed : Bool) → failed ≡ false → not failed ≡ false → ⊥
-not-both true e f = true≢false e
-not-both false e f = true≢false f
-
-pub loop-n-init : goal.loop-n-init
-loop-n-init c = omega arith
-
-pub read_at-got-requires : goal.read_at-got-requires
-read_at-got-requires c = omega arith
-
-pub shape_of-buf-then-got-eq0 : goal.shape_of-buf-then-got-eq0
-shape_of-buf-then-got-eq0 c = omega arith
-
-pub returns-then-got-eq0 : goal.returns-then-got-eq0
-returns-then-got-eq0 c = (omega arith, λ read more. absurd (not-both _ read more))
-
-pub overflow_add-n : goal.overflow_add-n
-overflow_add-n c = omega arith
-
-pub loop-n-smaller : goal.loop-n-smaller
-loop-n-smaller c = omega arith
+consumed-then : (a b c : Option (List ℕ)) (x y : List ℕ) → Consumes a b x → Consumes b c y → Consumes a c (x ++ y)
+consumed-then None b c x y p q = tt
+consumed-then (Some s) None c x y p q = absurd p
+consumed-then (Some s) (Some t) None x y p q = absurd q
+consumed-then (Some s) (Some t) (Some u) x y p q = rw (p, q, append_assoc)
 
 pub loop-n-preserved : goal.loop-n-preserved
-loop-n-preserved c = omega arith
-
-pub shape_of-buf : goal.shape_of-buf
-shape_of-buf c = omega arith
-
-pub returns : goal.returns
-returns c = (omega arith, λ read more. omega arith)
+loop-n-preserved g c =
+    let n = c.loop-n.n in
+    let got = c.read_at-got in
+    record {
+      within = omega arith;
+      room = omega arith;
+      bytes =
+          rw (take-add n got.result.count got.new.buf, got.ensures.buf_unchanged)
+          (consumed-then _ _ _ _ _ c.loop-n.invariant.bytes got.ensures.bytes);
+    }

@@ -1,0 +1,7 @@
+-- `panel::ftk_amend` meets its contract. Assumes nothing.
+use borrow.Author.Rules.{rules}
+use Rattle.panel.proofs.Given.{given}
+use Rattle.panel.proofs.ftk_amend.Goals as goal
+
+pub returns : goal.returns
+returns c = given c.five.ensures c.amend.ensures
