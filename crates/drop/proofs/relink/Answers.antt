@@ -17,7 +17,9 @@ returns-then-son-holder c = simp c.if-son-holder.true c.put_link.ensures
 
 pub put_register-requires : goal.put_register-requires
 put_register-requires c =
-    let p = c.requires in let l = c.args.link in let h = held_by_lem c.args.son l.holder c.if-son-holder.false in
+    let p = c.requires in
+    let l = c.args.link in
+    let h = held_by_lem c.args.son l.holder c.if-son-holder.false in
     (h, omega arith, omega (arith, register-lt _ _ _ l.side p.sized h p.held))
 
 pub returns : goal.returns

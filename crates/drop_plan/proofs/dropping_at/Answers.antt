@@ -5,7 +5,8 @@ use Rattle.drop_plan.proofs.dropping_at.Goals as goal
 
 pub drop_at-requires : goal.drop_at-requires
 drop_at-requires c =
-    let p = c.requires in let i = rw c.in-Hit.is at p.1 in
+    let p = c.requires in
+    let i = rw c.in-Hit.is at p.1 in
     record {
       ready = p.0;
       first = i.0;

@@ -7,7 +7,8 @@ use Rattle.drop_plan.proofs.replacing.Goals as goal
 
 pub if_may-requires : goal.if_may-requires
 if_may-requires c =
-    let p = c.requires in let i = rw c.in-Is.is at c.leftmost.ensures.inside in
+    let p = c.requires in
+    let i = rw c.in-Is.is at c.leftmost.ensures.inside in
     let at : AtSlot _ _ = record { slots = c.args.c; ready = p.0; first = p.1; last = p.2 } in
     (omega arith, record { placed = at; inside = i })
 

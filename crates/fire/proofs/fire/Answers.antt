@@ -25,20 +25,23 @@ act-requires c = (
 
 pub returns-in-Outside : goal.returns-in-Outside
 returns-in-Outside c =
-    let a = c.args in let e = sym (fire-shut a.t.now a.rule a.holder a.side
+    let a = c.args in
+    let e = sym (fire-shut a.t.now a.rule a.holder a.side
     (sym c.capacity.ensures ∙ c.in-Outside.is)) in
     (c.refuse.ensures ∙ ap (λ (d : Done). d.answer) e, ap (λ (d : Done). d.words) e)
 
 pub returns-in-Refuse : goal.returns-in-Refuse
 returns-in-Refuse c =
-    let a = c.args in let e = sym (fire-refused a.t.now a.rule a.holder a.side
+    let a = c.args in
+    let e = sym (fire-refused a.t.now a.rule a.holder a.side
     (sym c.capacity.ensures ∙ c.in-Within.is)
     (sym c.in-Refuse.is ∙ c.plan_in.ensures.is)) in
     (c.refuse-in-Refuse.ensures ∙ ap (λ (d : Done). d.answer) e, ap (λ (d : Done). d.words) e)
 
 pub returns-in-Fire : goal.returns-in-Fire
 returns-in-Fire c =
-    let a = c.args in let e = sym (fire-fired a.t.now a.rule a.holder a.side
+    let a = c.args in
+    let e = sym (fire-fired a.t.now a.rule a.holder a.side
     (sym c.capacity.ensures ∙ c.in-Within.is) (sym c.in-Fire.is ∙ c.plan_in.ensures.is)) in (
       c.accept.ensures ∙ simp (c.long.ensures, c.change-change.ensures) (ap (λ (d : Done). d.answer) e),
       c.act.ensures.is ∙ ap (λ (d : Done). d.words) e,

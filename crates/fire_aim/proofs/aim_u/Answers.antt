@@ -12,7 +12,9 @@ take-requires c = let p = c.requires in (p.0.sized, rw c.son-u.ensures p.1)
 
 pub aim_w-requires : goal.aim_w-requires
 aim_w-requires c =
-    let a = c.args in let p = c.requires in let k = took _ _ _ _ _ _ (sym c.take.ensures ∙ c.in-Got.is) in
+    let a = c.args in
+    let p = c.requires in
+    let k = took _ _ _ _ _ _ (sym c.take.ensures ∙ c.in-Got.is) in
     (p.0, k.first, rw c.son-u.ensures p.1, fit-son a.c _ (other a.r.side) k.fit)
 
 pub returns-in-Not : goal.returns-in-Not
@@ -26,6 +28,7 @@ returns-then-has_third c =
 
 pub returns-else-has_third : goal.returns-else-has_third
 returns-else-has_third c =
-    let a = c.args in let p = c.requires in aim-u-got p.0 a.r a.sv _ c.son-u.ensures (rw c.son-u.ensures p.1)
+    let a = c.args in
+    let p = c.requires in aim-u-got p.0 a.r a.sv _ c.son-u.ensures (rw c.son-u.ensures p.1)
     (sym c.take.ensures ∙ c.in-Got.is) (sym c.has_third.ensures ∙ c.if-has_third.false)
     c.judge.ensures

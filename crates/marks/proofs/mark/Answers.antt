@@ -8,7 +8,8 @@ use Rattle.marks.proofs.mark.Goals as goal
 
 pub returns : goal.returns
 returns c =
-    let at = c.args in let small : at.k % 64 < 64 = omega arith in
+    let at = c.args in
+    let small : at.k % 64 < 64 = omega arith in
     record {
       room = simp length-set c.requires.1;
       bits =

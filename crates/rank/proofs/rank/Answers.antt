@@ -10,7 +10,8 @@ use Rattle.rank.proofs.rank.Goals as goal
 
 pub rank_in-requires : goal.rank_in-requires
 rank_in-requires c =
-    let r = c.args.r in let some = eqb-false r 0 (not-true (eqb r 0) (was-asked _ _ _
+    let r = c.args.r in
+    let some = eqb-false r 0 (not-true (eqb r 0) (was-asked _ _ _
     c.enter_sound.ensures c.in-Open.is)) in (
       omega (arith, c.wide.ensures),
       opened _ _ _ c.enter_sound.ensures

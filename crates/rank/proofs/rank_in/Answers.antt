@@ -29,6 +29,7 @@ rank_said-requires c = c.rank_at.ensures.most
 
 pub returns : goal.returns
 returns c =
-    let r = c.args.r in let e : r + most_slots - most_slots ≡ r = omega arith in
+    let r = c.args.r in
+    let e : r + most_slots - most_slots ≡ r = omega arith in
     let found = rw e at c.rank_at.ensures.says in
     c.rank_said.ensures ∙ said c.requires.1 c.root-root.ensures (rank_of r) found

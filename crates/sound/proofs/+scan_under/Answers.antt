@@ -29,22 +29,26 @@ scan-under-n-requires t c =
 
 pub scan-returns-then-n-eq-SPOILED : goal.scan-returns-then-n-eq-SPOILED
 scan-returns-then-n-eq-SPOILED t c =
-    let v = c.loop-few.invariant in let o = rw c.in-Entered.is at c.visit.ensures in
+    let v = c.loop-few.invariant in
+    let o = rw c.in-Entered.is at c.visit.ensures in
     along-spoiled v o _ _ c.under-n.ensures _ c.if-n-eq-SPOILED.true
 
 pub scan-returns-then-right-eq0 : goal.scan-returns-then-right-eq0
 scan-returns-then-right-eq0 t c =
-    let v = c.loop-few.invariant in let o = rw c.in-Entered.is at c.visit.ensures in
+    let v = c.loop-few.invariant in
+    let o = rw c.in-Entered.is at c.visit.ensures in
     let some = c.if-few-eq0.false in along-end v o _ _ c.under-n.ensures c.if-n-eq-SPOILED.false some c.if-right-eq0.true
 
 pub scan-loop-few-smaller : goal.scan-loop-few-smaller
 scan-loop-few-smaller t c =
-    let v = c.loop-few.invariant in let o = rw c.in-Entered.is at c.visit.ensures in
+    let v = c.loop-few.invariant in
+    let o = rw c.in-Entered.is at c.visit.ensures in
     let some = c.if-few-eq0.false in along-less v o _ _ c.under-n.ensures c.if-n-eq-SPOILED.false some
 
 pub scan-loop-few-preserved : goal.scan-loop-few-preserved
 scan-loop-few-preserved t c =
-    let v = c.loop-few.invariant in let o = rw c.in-Entered.is at c.visit.ensures in
+    let v = c.loop-few.invariant in
+    let o = rw c.in-Entered.is at c.visit.ensures in
     let some = c.if-few-eq0.false in along-right v o _ _ c.under-n.ensures c.if-n-eq-SPOILED.false some c.if-right-eq0.false
 
 pub under-scan-requires : goal.under-scan-requires

@@ -21,7 +21,9 @@ loop-k-smaller c = omega (arith, c.past-k.ensures.further)
 
 pub loop-k-preserved : goal.loop-k-preserved
 loop-k-preserved c =
-    let past = c.past-k.ensures in let here = c.loop-k.invariant in let settled = sym c.settled.ensures ∙ c.if-settled.true in
+    let past = c.past-k.ensures in
+    let here = c.loop-k.invariant in
+    let settled = sym c.settled.ensures ∙ c.if-settled.true in
     (omega (arith, past.further), settled-past _ _ here.1 settled past)
 
 pub returns-else-settled : goal.returns-else-settled

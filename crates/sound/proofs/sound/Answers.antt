@@ -24,7 +24,8 @@ from_root-missing-requires c =
 pub returns-then-missing-eq0 : goal.returns-then-missing-eq0
 returns-then-missing-eq0 c =
     let told = rw (c.records-n.ensures, c.root-root.ensures) at c.from_root-missing.ensures in
-    let small = c.shared_slice_known-1.given in let header = sym c.header_ok.ensures ∙ c.if-header_ok.true in
+    let small = c.shared_slice_known-1.given in
+    let header = sym c.header_ok.ensures ∙ c.if-header_ok.true in
     let none = c.if-missing-eq0.true in by-pass _ _ (λ i. omega (arith, small i)) _ _ no-marks c.requires.most header _ none told
     c.rest_blank.result c.rest_blank.ensures
 

@@ -8,7 +8,8 @@ use Rattle.total.proofs.total_in.Goals as goal
 
 pub total_at-requires : goal.total_at-requires
 total_at-requires c =
-    let at = c.root-root.ensures in let h = root-hangs c.requires at c.records-n.ensures in
+    let at = c.root-root.ensures in
+    let h = root-hangs c.requires at c.records-n.ensures in
     (omega (arith, c.if-root-eq0.false), record { hangs = h; room = omega (arith, h.few, h.most) })
 
 pub returns-then-root-eq0 : goal.returns-then-root-eq0

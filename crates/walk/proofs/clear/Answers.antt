@@ -33,6 +33,8 @@ pub shape_of-t : goal.shape_of-t
 shape_of-t c = c.loop-i.invariant.2
 
 pub returns : goal.returns
-returns c = let t = c.args.t.now in let e : c.loop-i.i ≡ length t = omega arith in
+returns c =
+    let t = c.args.t.now in
+    let e : c.loop-i.i ≡ length t = omega arith in
     let d : drop c.loop-i.i t ≡ [] = drop_of_length-le t {i = c.loop-i.i} (omega arith) in
     c.loop-i.invariant.1 ∙ rw d (rw append-nil (rw e))

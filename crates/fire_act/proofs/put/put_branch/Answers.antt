@@ -11,4 +11,6 @@ put_link_word-requires c = let p = c.requires in (omega arith, link-lt _ _ _ p.s
 
 pub returns : goal.returns
 unfolding link_at
-returns c = let a = c.args in let p = c.requires in kept_set a.t.now a.c _ a.branch p.sized c.put_link_word.ensures
+returns c =
+    let a = c.args in
+    let p = c.requires in kept_set a.t.now a.c _ a.branch p.sized c.put_link_word.ensures

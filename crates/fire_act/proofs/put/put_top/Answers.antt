@@ -11,4 +11,6 @@ put_link-requires c = let p = c.requires in (omega arith, link-lt _ _ _ p.0 p.1,
 
 pub returns : goal.returns
 unfolding link_at
-returns c = let a = c.args in let p = c.requires in kept_set a.t.now a.c _ a.k p.0 c.put_link.ensures
+returns c =
+    let a = c.args in
+    let p = c.requires in kept_set a.t.now a.c _ a.k p.0 c.put_link.ensures

@@ -8,7 +8,9 @@ use Rattle.text_fields.proofs.read.word.Goals as goal
 
 pub overflow_add-next : goal.overflow_add-next
 overflow_add-next c =
-    let s = c.args.s.now in let at = c.in-Numbers.next in let fits = starts-fits _ (drop at s) (sym c.starts.ensures ∙ c.if-starts.true) in
+    let s = c.args.s.now in
+    let at = c.in-Numbers.next in
+    let fits = starts-fits _ (drop at s) (sym c.starts.ensures ∙ c.if-starts.true) in
     omega (arith, fits, length-drop at s)
 
 pub returns-then-starts : goal.returns-then-starts

@@ -12,11 +12,13 @@ tidied-requires c =
 
 pub returns-in-Shut : goal.returns-in-Shut
 returns-in-Shut c =
-    let a = c.args in let e = sym
+    let a = c.args in
+    let e = sym
     (tidy-shut a.t.now a.budget (sym c.enter_sound.ensures ∙ c.in-Shut.is)) in
     (c.refuse.ensures ∙ ap (λ (d : Done). d.answer) e, ap (λ (d : Done). d.words) e)
 
 pub returns-in-Open : goal.returns-in-Open
 returns-in-Open c =
-    let a = c.args in let e = sym c.enter_sound.ensures ∙ c.in-Open.is in
+    let a = c.args in
+    let e = sym c.enter_sound.ensures ∙ c.in-Open.is in
     tidy-open a.t.now a.budget e c.tidied.ensures

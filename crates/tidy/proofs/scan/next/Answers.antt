@@ -42,7 +42,8 @@ link-link-requires c =
 
 pub nodes-requires : goal.nodes-requires
 nodes-requires c =
-    let p = c.requires in let e = sym c.of.ensures ∙ c.in-Known.is in
+    let p = c.requires in
+    let e = sym c.of.ensures ∙ c.in-Known.is in
     let d = sym
     (seen-passes c.args.t.now c.args.c _ _ e c.slot_at-s.ensures
     c.look-left.ensures c.look-right.ensures c.on_side.ensures
@@ -77,7 +78,8 @@ strike-requires c =
 
 pub slots-smaller : goal.slots-smaller
 slots-smaller c =
-    let p = c.requires in let on = slot-listed c.slots.invariant
+    let p = c.requires in
+    let on = slot-listed c.slots.invariant
     c.lowest-v.ensures c.if-c-v.false
     p.whole.sized.most in
     fewer c.strike.ensures (omega (arith, c.if-c-v.false, p.whole.sized.most))
@@ -94,7 +96,8 @@ returns-then-c-v c = none-next c.slots.invariant c.lowest-v.ensures c.if-c-v.tru
 
 pub returns-then-due : goal.returns-then-due
 returns-then-due c =
-    let p = c.requires in let e = sym c.of.ensures ∙ c.in-Known.is in
+    let p = c.requires in
+    let e = sym c.of.ensures ∙ c.in-Known.is in
     let d = sym
     (seen-passes c.args.t.now c.args.c _ _ e c.slot_at-s.ensures
     c.look-left.ensures c.look-right.ensures c.on_side.ensures

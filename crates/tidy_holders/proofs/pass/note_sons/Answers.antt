@@ -7,12 +7,14 @@ use Rattle.tidy_holders.proofs.pass.note_sons.Goals as goal
 
 pub note-requires : goal.note-requires
 note-requires c =
-    let p = c.requires in let e = c.son.ensures ∙ ap (λ (s : Slot). s.left) c.slot_at-s.ensures in
+    let p = c.requires in
+    let e = c.son.ensures ∙ ap (λ (s : Slot). s.left) c.slot_at-s.ensures in
     record { room = p.room; slot = rw e p.left; most = p.most }
 
 pub note-requires-2 : goal.note-requires-2
 note-requires-2 c =
-    let p = c.requires in let e = c.son-2.ensures ∙ ap (λ (s : Slot). s.right) c.slot_at-s.ensures in
+    let p = c.requires in
+    let e = c.son-2.ensures ∙ ap (λ (s : Slot). s.right) c.slot_at-s.ensures in
     record { room = c.note.ensures.room; slot = rw e p.right; most = p.most }
 
 pub returns : goal.returns

@@ -22,7 +22,9 @@ returns-then-t-b-eq-FREE c =
 -- the first of the two slots is taken
 pub returns-then-t-next-eq-FREE : goal.returns-then-t-next-eq-FREE
 returns-then-t-next-eq-FREE c =
-    let h = c.loop-b-test.true in let p = c.requires in let on = place-on p c.loop-b.invariant (omega (arith, h)) c.if-t-b-eq-FREE.false in
+    let h = c.loop-b-test.true in
+    let p = c.requires in
+    let on = place-on p c.loop-b.invariant (omega (arith, h)) c.if-t-b-eq-FREE.false in
     place_here p on h c.if-t-next-eq-FREE.true
 
 pub overflow_add-b-in-loop-b : goal.overflow_add-b-in-loop-b
@@ -34,7 +36,9 @@ loop-b-smaller c = omega (arith, c.loop-b-test.true)
 
 pub loop-b-preserved : goal.loop-b-preserved
 loop-b-preserved c =
-    let h = c.loop-b-test.true in let p = c.requires in let on = place-on p c.loop-b.invariant (omega (arith, h)) c.if-t-b-eq-FREE.false in
+    let h = c.loop-b-test.true in
+    let p = c.requires in
+    let on = place-on p c.loop-b.invariant (omega (arith, h)) c.if-t-b-eq-FREE.false in
     place-on p on h c.if-t-next-eq-FREE.false
 
 -- at most one slot is left
