@@ -6,7 +6,8 @@ use Rattle.scope.specs.Numbers.{other}
 use Rattle.scope.specs.Table.{son, written}
 use Rattle.scope.specs.Edits.{son_on, register_on, place_of, writes}
 use Rattle.scope.specs.Tree.{over}
-use Rattle.scope.specs.Rules.{seen, localh, propagated, rotated, rotated_twice, rotated_links, rotated_heights, twice_top, twice_sons, twice_copied, twice_heights}
+use Rattle.scope.specs.Rules.{seen, localh, propagated, rotated, rotated_twice, rotated_links, rotated_heights}
+use Rattle.scope.specs.Rules.{twice_top, twice_sons, twice_copied, twice_heights}
 use Rattle.scope.specs.declared.rule.Pair.{Pair}
 use Rattle.scope.specs.declared.side.Side.{Side}
 use Rattle.scope.specs.declared.outcome.Nodes.{Nodes}

@@ -1,7 +1,8 @@
 // The actions, each over the side of its rule: links first, then registers.
 ghost use Rattle.scope.specs.Table.{written};
 ghost use Rattle.scope.specs.Edits.{writes};
-ghost use Rattle.scope.specs.Rules.{action_at, propagated, rotated, rotated_twice, rotated_links, rotated_heights, twice_top, twice_sons, twice_copied, twice_heights};
+ghost use Rattle.scope.specs.Rules.{action_at, propagated, rotated, rotated_twice, rotated_links, rotated_heights};
+ghost use Rattle.scope.specs.Rules.{twice_top, twice_sons, twice_copied, twice_heights};
 ghost use Rattle.scope.specs.declared.rule.Kind.TheVariants.{Propagate, Lean, Double};
 ghost use Rattle.fire_aim.specs.Aimed.{NodesWithin};
 ghost use Rattle.fire_act.specs.Wrote.{InNodes, Kept, HeightsLow};

@@ -54,14 +54,14 @@ told-all {s} {t} {from} w h l =
     (sym (ap length x ∙ w.count), sym (ap (λ (r : Run). r.table) e))
 
 -- an input that is too long is refused, however it goes on
-pub refused : (s : List ℕ) → most_input < length s → run_text s ≡ refused_text
+pub too_long : (s : List ℕ) → most_input < length s → run_text s ≡ refused_text
 unfolding run_text
-refused s h = rw (lt-ltb most_input (length s) h)
+too_long s h = rw (lt-ltb most_input (length s) h)
 
 -- THE REFUSAL IS ALL THAT IS PRINTED THEN
 pub told-refused : (s out : List ℕ) (n : ℕ) → most_input < length s → take n out ≡ refused_text → n ≤ length out
     → (take n out ≡ take n (drop 0 (run_text s))) × (n ≡ length (run_text s))
 told-refused s out n h e le =
     let l : length refused_text ≡ n = ap length (sym e) ∙ length-take-le n out le in
-    let x = refused s h in
+    let x = too_long s h in
     (e ∙ sym (ap (take n) x ∙ take_all n refused_text (omega arith)), sym (ap length x ∙ l))

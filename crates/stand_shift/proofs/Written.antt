@@ -11,7 +11,7 @@ use Rattle.std.specs.Prelude.{None, Some, IfSome}
 use Rattle.std.specs.declared.option.Option.{Option}
 use Rattle.std.specs.Io.KnownBytes.{Appends, Consumes, IsAtEnd}
 use Rattle.stand_shift.specs.Run.{most_input, run_text, AnsweredSo}
-use Rattle.stand_shift.proofs.Telling.{ToldSoFar, told-piece, refused}
+use Rattle.stand_shift.proofs.Telling.{ToldSoFar, told-piece, too_long}
 
 -- no piece, and one piece more
 pub appends-none : (a : Option (List ℕ)) → Appends a a []
@@ -45,4 +45,4 @@ read-all (Some xs) None old new ended s p end more q = absurd p
 read-all (Some xs) (Some ys) old new true s p end more q = rw (p, end refl, append-nil s) q
 read-all (Some xs) (Some ys) old new false s p end more q =
     let l = more refl in
-    rw (p, refused (s ++ ys) (omega (arith, l, length-append s ys)), sym (refused s l)) q
+    rw (p, too_long (s ++ ys) (omega (arith, l, length-append s ys)), sym (too_long s l)) q

@@ -1,6 +1,5 @@
 -- `amend::amend` meets its contract. Assumes nothing.
 use mathlib.Core.Path.{refl}
-use borrow.Author.Rules.{rules}
 use Rattle.scope.specs.Amend.{amend_of, amended}
 use Rattle.gate.proofs.Carried.{carried}
 use Rattle.amend.proofs.amend.Goals as goal

@@ -1,7 +1,6 @@
 -- `amend::amending_at` meets its contract. Assumes nothing.
 use mathlib.Core.Path.{sym}
 use native.Mathlib.Omega.{arith}
-use borrow.Author.Rules.{rules}
 use borrow.Author.Tests.{lt-ltb, le-ltb}
 use Rattle.scope.specs.Amend.{amending_at}
 use Rattle.amend.proofs.amending_at.Goals as goal

@@ -1,6 +1,5 @@
 -- `amend::change_record` meets its contract. Assumes nothing.
 use mathlib.Core.Path.{sym}
-use borrow.Author.Rules.{rules}
 use Rattle.scope.specs.Amend.{amended}
 use Rattle.amend.proofs.change_record.Goals as goal
 

@@ -1,6 +1,5 @@
 -- `amend::plan_amend` meets its contract. Assumes nothing.
 use mathlib.Core.Path.{sym, ◌∙◌}
-use borrow.Author.Rules.{rules}
 use Rattle.scope.specs.Amend.{amend_plan}
 use Rattle.spelling.proofs.Laws.{gate-ready}
 use Rattle.amend.proofs.plan_amend.Goals as goal

@@ -198,7 +198,8 @@ module _ (t : List ℕ) (c : ℕ) (l : Link) where
           alike-by t (At (mk s dv v (mk s du u m (mk s dw w e f)) far)) (top guard) (top (within most_height))
           (aims-on s dv du v u m (mk s dw w e f) far h
           ∙ got-third a ne (λ q. x-z l s dv du dw v u w m e f far h (sym q)) (λ q. y-z l s dv du dw v u w m e f far h (sym q)))
-          (judge t (At (mk s dv v (mk s du u m (mk s dw w e f)) far)) Double s (three_nodes l s dv du dw v u w m e f far h) v u w (doubled s dv du v u dw w m e f far)
+          (judge t (At (mk s dv v (mk s du u m (mk s dw w e f)) far)) Double s
+          (three_nodes l s dv du dw v u w m e f far h) v u w (doubled s dv du v u dw w m e f far)
           (look-v l s dv du v u m (mk s dw w e f) far h).registers (look-u l s dv du v u m (mk s dw w e f) far h).registers
           a.registers (twice-below l s dv du dw v u w m e f far h))
 

@@ -176,15 +176,15 @@ module _ (test : ℕ → ℕ → Bool) where
         r.1,
       ))
 
-  pub no_slot : (left k : ℕ) → nothing (slots_from test left k) ≡ true
+  pub no_slot-found : (left k : ℕ) → nothing (slots_from test left k) ≡ true
       → (v n : ℕ) → k ≤ v → v < k + left → 1 ≤ n → n ≤ 8 → test v n ≡ false
   unfolding slots_from
-  no_slot zero k e v n p q i j = absurd (omega arith)
-  no_slot (suc left) k e v n p q i j =
+  no_slot-found zero k e v n p q i j = absurd (omega arith)
+  no_slot-found (suc left) k e v n p q i j =
       let r = no-rule 8 k 1 (slots_from test left (k + 1)) e in
       elim (ℕ_discrete k v) [
         | yes s ↦ rw (← s) (r.0 n i (omega arith))
-        | no s ↦ no_slot left (k + 1) r.1 v n (omega arith) (omega arith) i j
+        | no s ↦ no_slot-found left (k + 1) r.1 v n (omega arith) (omega arith) i j
       ]
 
 -- QUIET WORDS SPELL A QUIET TREE
@@ -195,5 +195,5 @@ quiet-tree {t} {c} w e way r =
     (λ T' q.
     let h = holds-there root_link w.sound.tree T' (hangs-root w) way r q in
     let n = rule-numbered r in
-    let f = no_slot (passes false t c) c 1 e h.slot n.number h.first (omega (arith, h.most)) n.first n.most in
+    let f = no_slot-found (passes false t c) c 1 e h.slot n.number h.first (omega (arith, h.most)) n.first n.most in
     neither h.holds (rw n.is at f))

@@ -21,7 +21,7 @@ use Rattle.tree.proofs.Firing.Steps.{no-tree, none-there}
 use Rattle.tree.proofs.Rest.Height.{height-size}
 use Rattle.tree.proofs.Rest.Quiet.{stuck-quiet}
 use Rattle.bridge.specs.Leads.{link_along}
-use Rattle.bridge.proofs.Resting.Quiets.{relaxed, rule-numbered, no_slot}
+use Rattle.bridge.proofs.Resting.Quiets.{relaxed, rule-numbered, no_slot-found}
 use Rattle.bridge.proofs.Resting.Searches.{slots-none, known-rule}
 use Rattle.bridge.proofs.Resting.Meets.{holds-meets, meets-there, accepts-due}
 
@@ -66,6 +66,6 @@ module _ {t : List ℕ} {c : ℕ} (w : Whole t c) where
       let f = accepts-due w r way T' o in
       let n = rule-numbered r in
       let x = word t (link_at (link_along t way root_link)) in
-      let z = no_slot (passes true t c) c 1 (ap nothing e) x n.number f.0.first (omega (arith, f.1))
+      let z = no_slot-found (passes true t c) c 1 (ap nothing e) x n.number f.0.first (omega (arith, f.1))
       n.first n.most in
       neither f.0.due (rw n.is at z)))

@@ -31,8 +31,6 @@ use Rattle.scope.specs.declared.outcome.Walk.{Walk}
 use Rattle.scope.specs.declared.outcome.Walk.TheVariants.{Hit, Miss, Damage}
 use Rattle.scope.specs.declared.outcome.Leftmost.{Leftmost}
 use Rattle.scope.specs.declared.outcome.Leftmost.TheVariants as leftmost
-use Rattle.scope.specs.declared.outcome.Amending.{Amending}
-use Rattle.scope.specs.declared.outcome.Amending.TheVariants as amending-is
 use Rattle.scope.specs.declared.outcome.Dropping.{Dropping}
 use Rattle.scope.specs.declared.outcome.Dropping.TheVariants as dropping-is
 

@@ -7,7 +7,7 @@ use lib.ListN.{length}
 use lib.Dec.{eqb, ltb}
 use Rattle.scope.proofs.Bools.{neither}
 use Rattle.scope.specs.Numbers.{last_change}
-use Rattle.scope.specs.Table.{word, count_word, change_word, slots_in, slot_at, son}
+use Rattle.scope.specs.Table.{word, count_word, change_word, slots_in, slot_at}
 use Rattle.scope.specs.Fit.{blank_slot, header_ok, record_ok}
 use Rattle.scope.specs.Answers.{Done, code_of, refused, gate, answering, admit, onSlots}
 use Rattle.scope.specs.Walk.{walk_of}

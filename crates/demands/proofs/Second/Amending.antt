@@ -29,7 +29,7 @@ use Rattle.bridge.specs.Settled.{Spelled}
 use Rattle.tree.proofs.Keys.Keyed.{amended_tree}
 use Rattle.bridge.proofs.Links.Settles.{amended-whole}
 use Rattle.ledger.specs.Entries.{replace}
-use Rattle.ledger.specs.Ledger.{Ledger, neighbours, entry, kept, lacking, entered, on_entry, amend_in}
+use Rattle.ledger.specs.Ledger.{Ledger, entry, kept, lacking, entered, on_entry, amend_in}
 use Rattle.demands.specs.Ledgers.{ledger_of, AsLedger}
 use Rattle.ledger.specs.OfTree.{entries_of}
 use Rattle.demands.proofs.Open.{header-gate, walk-tree}

@@ -4,7 +4,6 @@ use native.Mathlib.Omega.{arith}
 use Rattle.scope.specs.Numbers.{root_link}
 use Rattle.scope.specs.Tree.{size}
 use Rattle.scope.specs.Walk.{walk_of}
-use Rattle.scope.specs.Tidy.{quiet}
 use Rattle.scope.specs.declared.outcome.Walk.TheVariants.{Hit}
 use Rattle.tree.specs.Seek.{route}
 use Rattle.tree.proofs.Shown.Sharp.{sixteen}

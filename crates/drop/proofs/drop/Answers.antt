@@ -1,6 +1,5 @@
 -- `drop::drop` meets its contract. Assumes nothing.
 use mathlib.Core.Path.{refl}
-use borrow.Author.Rules.{rules}
 use Rattle.scope.specs.Drop.{drop_of, dropped}
 use Rattle.gate.proofs.Carried.{carried}
 use Rattle.drop.proofs.drop.Goals as goal

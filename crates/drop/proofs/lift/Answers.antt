@@ -1,5 +1,4 @@
 -- `drop::lift` meets its contract. Assumes nothing.
-use borrow.Author.Rules.{rules}
 use Rattle.drop.proofs.Written.{lifted_by}
 use Rattle.drop.proofs.lift.Goals as goal
 

@@ -1,7 +1,6 @@
 -- `drop::relink` meets its contract. Assumes nothing.
 use mathlib.Core.Path.{sym}
 use native.Mathlib.Omega.{arith}
-use borrow.Author.Rules.{rules}
 use Rattle.scope.specs.Drop.{relinked}
 use Rattle.spelling.proofs.Laws.{link-lt, register-lt}
 use Rattle.drop.proofs.Relinking.{held_by_lem}

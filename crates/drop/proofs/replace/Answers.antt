@@ -1,6 +1,5 @@
 -- `drop::replace` meets its contract. Assumes nothing.
 use native.Mathlib.Omega.{arith}
-use borrow.Author.Rules.{rules}
 use Rattle.drop.proofs.Written.{replaced-by}
 use Rattle.drop.proofs.replace.Goals as goal
 

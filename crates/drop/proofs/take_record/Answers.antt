@@ -1,6 +1,5 @@
 -- `drop::take_record` meets its contract. Assumes nothing.
 use mathlib.Core.Path.{sym}
-use borrow.Author.Rules.{rules}
 use Rattle.drop.proofs.take_record.Goals as goal
 
 pub returns : goal.returns

@@ -1,6 +1,5 @@
 -- `drop::vacate` meets its contract. Assumes nothing.
 use mathlib.Core.Path.{sym}
-use borrow.Author.Rules.{rules}
 use Rattle.drop.proofs.vacate.Goals as goal
 
 pub returns : goal.returns

@@ -1,6 +1,5 @@
 -- `fire::aim_at` meets its contract. Assumes nothing.
 use mathlib.Core.Path.{sym, ◌∙◌}
-use borrow.Author.Rules.{rules}
 use Rattle.fire.proofs.Planned.{ready, aimed_on, aimed-off}
 use Rattle.fire.proofs.aim_at.Goals as goal
 

@@ -1,7 +1,6 @@
 -- `fire::fire` meets its contract. Assumes nothing.
 use mathlib.Core.Path.{sym, ◌∙◌, ap}
 use native.Mathlib.Omega.{arith}
-use borrow.Author.Rules.{rules}
 use Rattle.fire.proofs.Planned.{fire-shut, fire-refused, fire-fired}
 use Rattle.spelling.proofs.Laws.{slots-room}
 use Rattle.scope.specs.Answers.{Done}

@@ -1,6 +1,5 @@
 -- `fire::plan_in` meets its contract. Assumes nothing.
 use mathlib.Core.Path.{sym, ◌∙◌}
-use borrow.Author.Rules.{rules}
 use Rattle.fire.proofs.Planned.{link-holder}
 use Rattle.fire.proofs.plan_in.Goals as goal
 

@@ -19,7 +19,9 @@ order_at-order_under-here-requires t c =
 
 pub order_at-offset_bounds-list-here : goal.order_at-offset_bounds-list-here
 order_at-offset_bounds-list-here t c =
-    let free = has-place c.requires.1 (forked c.requires.1.hangs (omega (arith, c.requires.0)) c.fork_at-f.ensures) c.order_under-here.auto.list c.order_under-here.ensures in
+    let free = has-place c.requires.1
+    (forked c.requires.1.hangs (omega (arith, c.requires.0)) c.fork_at-f.ensures)
+    c.order_under-here.auto.list c.order_under-here.ensures in
     omega (arith, free)
 
 pub order_at-bounds-list-here : goal.order_at-bounds-list-here
@@ -28,7 +30,9 @@ order_at-bounds-list-here t c =
 
 pub order_at-overflow_add-here : goal.order_at-overflow_add-here
 order_at-overflow_add-here t c =
-    let free = has-place c.requires.1 (forked c.requires.1.hangs (omega (arith, c.requires.0)) c.fork_at-f.ensures) c.order_under-here.auto.list c.order_under-here.ensures in
+    let free = has-place c.requires.1
+    (forked c.requires.1.hangs (omega (arith, c.requires.0)) c.fork_at-f.ensures)
+    c.order_under-here.auto.list c.order_under-here.ensures in
     omega (arith, free)
 
 pub order_at-order_under-requires : goal.order_at-order_under-requires
@@ -44,7 +48,9 @@ order_at-shape_of-list t c =
 
 pub order_at-returns : goal.order_at-returns
 order_at-returns t c =
-    listed_here c.requires.1 (forked c.requires.1.hangs (omega (arith, c.requires.0)) c.fork_at-f.ensures) c.order_under-here.auto.list c.order_under-here.ensures
+    listed_here c.requires.1
+    (forked c.requires.1.hangs (omega (arith, c.requires.0)) c.fork_at-f.ensures)
+    c.order_under-here.auto.list c.order_under-here.ensures
     c.order_under.ensures
 
 pub order_under-order_at-requires : goal.order_under-order_at-requires

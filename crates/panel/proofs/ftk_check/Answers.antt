@@ -1,5 +1,4 @@
 -- `panel::ftk_check` meets its contract. Assumes nothing.
-use borrow.Author.Rules.{rules}
 use Rattle.panel.proofs.Given.{given}
 use Rattle.panel.proofs.ftk_check.Goals as goal
 

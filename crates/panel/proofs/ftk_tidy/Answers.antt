@@ -1,5 +1,4 @@
 -- `panel::ftk_tidy` meets its contract. Assumes nothing.
-use borrow.Author.Rules.{rules}
 use Rattle.panel.proofs.Given.{given}
 use Rattle.panel.proofs.ftk_tidy.Goals as goal
 

@@ -1,7 +1,6 @@
 -- `rank::rank_at` and `rank::rank_under` meet their contracts. Assumes nothing.
-use Prim.Native.Nat.{ℕ, ◌+◌, ◌*◌, ◌<◌}
 use native.Mathlib.Omega.{arith}
-use Rattle.fork.proofs.Down.{Forked, in_reach, forked}
+use Rattle.fork.proofs.Down.{in_reach, forked}
 use Rattle.rank.proofs.Seeking.{rank-leaf, seek-left, seek_found, seek-right}
 use Rattle.rank.proofs.+rank_at_rank_under.Goals as goal
 

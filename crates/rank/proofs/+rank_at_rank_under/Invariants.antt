@@ -1,8 +1,5 @@
 -- `rank::rank_at` and `rank::rank_under` meet their contracts. Assumes nothing.
-use Prim.Native.Nat.{ℕ, ◌+◌, ◌*◌, ◌<◌}
-use native.Mathlib.Omega.{arith}
-use Rattle.fork.proofs.Down.{Forked, in_reach, forked}
-use Rattle.rank.proofs.Seeking.{rank-leaf, seek-left, seek_found, seek-right}
+use Prim.Native.Nat.{◌+◌, ◌*◌}
 use Rattle.rank.proofs.+rank_at_rank_under.Given as goal
 
 abbrev pub decreases-rank_at : goal.decreases-rank_at

@@ -5,7 +5,6 @@ use lib.Dec.{eqb}
 use borrow.Author.Tests.{eqb-false, not-true}
 use Rattle.scope.specs.Sums.{rank_answer}
 use Rattle.spelling.proofs.Opened.{opened, was-asked, headed}
-use borrow.Author.Rules.{rules}
 use Rattle.rank.proofs.rank.Goals as goal
 
 pub rank_in-requires : goal.rank_in-requires

@@ -6,7 +6,6 @@ use Rattle.scope.specs.Numbers.{most_slots}
 use Rattle.scope.specs.Sums.{rank_of}
 use Rattle.fork.proofs.Down.{root-hangs, said}
 use Rattle.rank.proofs.Seeking.{rank-over, some-root}
-use borrow.Author.Rules.{rules}
 use Rattle.rank.proofs.rank_in.Goals as goal
 
 pub returns-then-n-r : goal.returns-then-n-r

@@ -1,6 +1,5 @@
 -- `rank::rank_said` meets its contract. Assumes nothing.
 use mathlib.Core.Path.{sym}
-use borrow.Author.Rules.{rules}
 use Rattle.rank.proofs.Seeking.{past-in, at_in}
 use Rattle.rank.proofs.rank_said.Goals as goal
 

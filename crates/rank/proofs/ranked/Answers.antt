@@ -1,7 +1,6 @@
 -- `rank::ranked` meets its contract. Assumes nothing.
 use Rattle.scope.specs.Sums.{ranked}
 use mathlib.Core.Path.{sym}
-use borrow.Author.Rules.{rules}
 use Rattle.rank.proofs.ranked.Goals as goal
 
 pub returns-in-At : goal.returns-in-At

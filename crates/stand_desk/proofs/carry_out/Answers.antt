@@ -1,6 +1,5 @@
 -- `stand_desk::carry_out` meets its contract. Assumes nothing.
 use mathlib.Core.Path.{refl, ap}
-use borrow.Author.Rules.{rules}
 use Rattle.stand_desk.specs.declared.Reply.TheVariants.{Say}
 use Rattle.stand_desk.specs.Step.{wish_of, reply_of, table_after}
 use Rattle.stand_desk.proofs.Steps.{done}

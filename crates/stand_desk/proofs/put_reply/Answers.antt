@@ -1,6 +1,5 @@
 -- `stand_desk::put_reply` meets its contract. Assumes nothing.
 use native.Mathlib.Omega.{arith}
-use borrow.Author.Rules.{rules}
 use Rattle.text_list.proofs.Records.{wider}
 use Rattle.stand_desk.specs.Step.{reply_text}
 use Rattle.stand_desk.proofs.put_reply.Goals as goal

@@ -1,5 +1,4 @@
 -- `stand_desk::step` meets its contract. Assumes nothing.
-use borrow.Author.Rules.{rules}
 use Rattle.stand_desk.proofs.Steps.{step-printed, left}
 use Rattle.stand_desk.proofs.step.Goals as goal
 

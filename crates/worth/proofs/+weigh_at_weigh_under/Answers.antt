@@ -1,8 +1,6 @@
 -- `worth::weigh_at` and `worth::weigh_under` meet their contracts. Assumes nothing.
-use Prim.Native.Nat.{ℕ, ◌+◌, ◌*◌, ◌<◌}
 use native.Mathlib.Omega.{arith}
-use borrow.Author.Rules.{rules}
-use Rattle.fork.proofs.Down.{Forked, in_reach, forked}
+use Rattle.fork.proofs.Down.{in_reach, forked}
 use Rattle.worth.proofs.Under.{weigh-leaf, registers, bears, laden, weigh-here}
 use Rattle.worth.proofs.+weigh_at_weigh_under.Goals as goal
 

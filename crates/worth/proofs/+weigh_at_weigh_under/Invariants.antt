@@ -1,9 +1,5 @@
 -- `worth::weigh_at` and `worth::weigh_under` meet their contracts. Assumes nothing.
-use Prim.Native.Nat.{ℕ, ◌+◌, ◌*◌, ◌<◌}
-use native.Mathlib.Omega.{arith}
-use borrow.Author.Rules.{rules}
-use Rattle.fork.proofs.Down.{Forked, in_reach, forked}
-use Rattle.worth.proofs.Under.{weigh-leaf, registers, bears, laden, weigh-here}
+use Prim.Native.Nat.{◌+◌, ◌*◌}
 use Rattle.worth.proofs.+weigh_at_weigh_under.Given as goal
 
 abbrev pub decreases-weigh_at : goal.decreases-weigh_at

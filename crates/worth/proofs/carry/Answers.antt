@@ -2,7 +2,6 @@
 use Prim.Native.Nat.{◌-◌}
 use native.Mathlib.Omega.{arith}
 use Rattle.worth.proofs.Weight.{product, no-product}
-use borrow.Author.Rules.{rules}
 use Rattle.worth.proofs.carry.Goals as goal
 
 pub overflow_mul-result : goal.overflow_mul-result

@@ -1,7 +1,6 @@
 -- `worth::own_weight` meets its contract. Assumes nothing.
 use native.Mathlib.Omega.{arith}
 use Rattle.worth.proofs.Weight.{own_eq, own-most}
-use borrow.Author.Rules.{rules}
 use Rattle.worth.proofs.own_weight.Goals as goal
 
 pub returns : goal.returns

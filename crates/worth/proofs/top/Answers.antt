@@ -6,7 +6,6 @@ use Rattle.scope.specs.declared.slot.Slot.{Slot}
 use Rattle.fork.proofs.Down.{forked, says-leaf}
 use Rattle.worth.specs.Weight.{top_of}
 use Rattle.worth.proofs.Under.{top-here}
-use borrow.Author.Rules.{rules}
 use Rattle.worth.proofs.top.Goals as goal
 
 pub returns-then-x-eq0 : goal.returns-then-x-eq0

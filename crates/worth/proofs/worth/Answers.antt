@@ -2,7 +2,6 @@
 use Rattle.scope.specs.Worth.{worth_answer}
 use Rattle.spelling.proofs.Opened.{opened, headed}
 use mathlib.Core.Path.{refl, sym}
-use borrow.Author.Rules.{rules}
 use Rattle.worth.proofs.worth.Goals as goal
 
 pub worth_in-requires : goal.worth_in-requires

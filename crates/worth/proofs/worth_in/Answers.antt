@@ -4,7 +4,6 @@ use native.Mathlib.Omega.{arith}
 use Rattle.fork.proofs.Down.{root-hangs, says-leaf}
 use Rattle.worth.specs.Weight.{top_of}
 use Rattle.worth.proofs.Under.{weigh-leaf, worth-whole}
-use borrow.Author.Rules.{rules}
 use Rattle.worth.proofs.worth_in.Goals as goal
 
 pub top-requires : goal.top-requires

@@ -1,6 +1,6 @@
 -- `stand_shift::run::refuse_all` hands on the refusal, which is all that is printed then. Assumes nothing.
 use mathlib.Core.Path.{◌∙◌}
-use Rattle.stand_shift.proofs.Telling.{told-refused, refused}
+use Rattle.stand_shift.proofs.Telling.{told-refused, too_long}
 use Rattle.stand_shift.proofs.run.refuse_all.Goals as goal
 
 pub hand_on-requires : goal.hand_on-requires
@@ -15,5 +15,5 @@ returns-clause-count g c =
 
 pub returns-clause-bytes : goal.returns-clause-bytes
 returns-clause-bytes g c = λ h.
-    rw (refused c.args.input.now c.requires.0)
+    rw (too_long c.args.input.now c.requires.0)
     (rw c.put_refusal-n.ensures.0 at (c.hand_on.ensures.bytes h))

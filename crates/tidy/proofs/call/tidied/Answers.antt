@@ -1,5 +1,4 @@
 -- `tidy::call::tidied` meets its contract. Assumes nothing.
-use borrow.Author.Rules.{rules}
 use mathlib.Core.Path.{◌∙◌}
 use Rattle.tidy.proofs.Reviewing.{all_start, all_listed}
 use Rattle.tidy.proofs.Outcome.{told-so}

@@ -1,5 +1,4 @@
 -- `tidy::call::tidy` meets its contract. Assumes nothing.
-use borrow.Author.Rules.{rules}
 use mathlib.Core.Path.{sym, ◌∙◌, ap}
 use Rattle.scope.specs.Answers.{Done}
 use Rattle.spelling.proofs.Opened.{opened}

@@ -1,5 +1,4 @@
 -- `tidy::review::review` meets its contract. Assumes nothing.
-use borrow.Author.Rules.{rules}
 use Rattle.tidy.proofs.Reviewing.{by-test}
 use Rattle.tidy.proofs.review.review.Goals as goal
 

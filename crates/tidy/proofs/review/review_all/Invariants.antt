@@ -1,8 +1,6 @@
 -- `tidy::review::review_all` meets its contract. Assumes nothing.
 use Prim.Native.Nat.{◌+◌, ◌-◌, ◌≤◌}
-use native.Mathlib.Omega.{arith}
 use Rattle.tidy.specs.Reviewed.{AllReviewed}
-use Rattle.tidy.proofs.Reviewing.{all-further, all-off}
 use Rattle.tidy.proofs.review.review_all.Given as goal
 
 abbrev pub invariant-loop-k : goal.invariant-loop-k

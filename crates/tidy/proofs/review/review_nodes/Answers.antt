@@ -1,5 +1,4 @@
 -- `tidy::review::review_nodes` meets its contract. Assumes nothing.
-use borrow.Author.Rules.{rules}
 use mathlib.Core.Path.{sym, ◌∙◌}
 use Rattle.tidy.proofs.Reviewing.{two-looked, three-looked}
 use Rattle.tidy.proofs.review.review_nodes.Goals as goal

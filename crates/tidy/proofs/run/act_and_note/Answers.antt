@@ -1,5 +1,4 @@
 -- `tidy::run::act_and_note` meets its contract. Assumes nothing.
-use borrow.Author.Rules.{rules}
 use Rattle.scope.specs.declared.rule.Kind.TheVariants.{Propagate, Lean, Even, Double}
 use Rattle.fire_act.proofs.Acting.{nodes-asked}
 use Rattle.tidy.proofs.Firing.{acted-alone, acted-noted}

@@ -1,5 +1,4 @@
 -- `tidy::run::fire_next` meets its contract. Assumes nothing.
-use borrow.Author.Rules.{rules}
 use native.Mathlib.Omega.{arith}
 use Rattle.tidy.proofs.Firing.{may-act, v_most, above_most, nodes-around, at_above, at-upper, fired-so}
 use Rattle.tidy.proofs.run.fire_next.Goals as goal

@@ -1,8 +1,6 @@
 -- `tidy::run::run_budget` meets its contract. Assumes nothing.
-use Prim.Native.Nat.{◌-◌}
 use native.Mathlib.Omega.{arith}
-use borrow.Author.Rules.{rules}
-use Rattle.tidy.proofs.Going.{UnderWay, going_start, going-none, going-spent, going-fire, going_on}
+use Rattle.tidy.proofs.Going.{going_start, going-none, going-spent, going-fire, going_on}
 use Rattle.tidy.proofs.run.run_budget.Goals as goal
 
 pub loop-r-init : goal.loop-r-init

@@ -1,15 +1,8 @@
 -- `tidy::scan::next` meets its contract. Assumes nothing.
 use Prim.Native.Nat.{◌-◌}
-use mathlib.Core.Path.{sym, ◌∙◌}
-use mathlib.Core.Logic.{⊎_elim}
-use native.Mathlib.Omega.{arith}
-use borrow.Author.Rules.{rules}
-use Rattle.spelling.proofs.Laws.{in_table}
-use Rattle.tidy_sight.proofs.Sights.{seen-passes}
 use Rattle.tidy.specs.Coming.{DueListed}
-use Rattle.tidy.proofs.Counting.{how_many, fewer}
-use Rattle.tidy.proofs.Scanning.{Trying, none-next, slot-listed, slot-first, struck-on}
-use Rattle.tidy.proofs.Scanning.{trying_start, trying-on, trying-end, unknown-not, here-present, next_here}
+use Rattle.tidy.proofs.Counting.{how_many}
+use Rattle.tidy.proofs.Scanning.{Trying}
 use Rattle.tidy.proofs.scan.next.Given as goal
 
 abbrev pub invariant-loop-n : goal.invariant-loop-n

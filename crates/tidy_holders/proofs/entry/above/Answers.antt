@@ -2,7 +2,6 @@
 use mathlib.Core.Path.{sym}
 use borrow.Author.Tests.{eq-eqb, ne_eqb}
 use Rattle.tidy_holders.specs.Codes.{above_of}
-use borrow.Author.Rules.{rules}
 use Rattle.tidy_holders.proofs.entry.above.Goals as goal
 
 pub returns-then-holder-eq0 : goal.returns-then-holder-eq0

@@ -2,7 +2,6 @@
 use mathlib.Core.Path.{sym}
 use borrow.Author.Tests.{eq-eqb, ne_eqb}
 use Rattle.tidy_holders.specs.Codes.{link_numbered}
-use borrow.Author.Rules.{rules}
 use Rattle.tidy_holders.proofs.entry.link.Goals as goal
 
 pub returns-then-q-eq0 : goal.returns-then-q-eq0

@@ -1,7 +1,6 @@
 -- `tidy_holders::entry::link_number` meets its contract. Assumes nothing.
 use native.Mathlib.Omega.{arith}
 use Rattle.tidy_holders.specs.Codes.{link_number}
-use borrow.Author.Rules.{rules}
 use Rattle.tidy_holders.proofs.entry.link_number.Goals as goal
 
 pub returns-in-Left : goal.returns-in-Left

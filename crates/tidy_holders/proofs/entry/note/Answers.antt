@@ -1,6 +1,5 @@
 -- `tidy_holders::entry::note` meets its contract. Assumes nothing.
 use Rattle.tidy_holders.proofs.Noting.Noted.{entry-noted}
-use borrow.Author.Rules.{rules}
 use Rattle.tidy_holders.proofs.entry.note.Goals as goal
 
 pub returns : goal.returns

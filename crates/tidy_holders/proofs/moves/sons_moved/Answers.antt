@@ -1,6 +1,5 @@
 -- `tidy_holders::moves::sons_moved` meets its contract. Assumes nothing.
 use Rattle.tidy_holders.proofs.Noting.Noted.{low-noted}
-use borrow.Author.Rules.{rules}
 use Rattle.tidy_holders.proofs.moves.sons_moved.Goals as goal
 
 pub note-requires : goal.note-requires

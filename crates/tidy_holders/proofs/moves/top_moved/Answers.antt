@@ -1,6 +1,5 @@
 -- `tidy_holders::moves::top_moved` meets its contract. Assumes nothing.
 use Rattle.tidy_holders.proofs.Noting.Noted.{top-noted}
-use borrow.Author.Rules.{rules}
 use Rattle.tidy_holders.proofs.moves.top_moved.Goals as goal
 
 pub note-requires-2 : goal.note-requires-2

@@ -1,6 +1,5 @@
 -- `tidy_holders::moves::turned` meets its contract. Assumes nothing.
 use Rattle.tidy_holders.proofs.Noting.Noted.{turned-noted}
-use borrow.Author.Rules.{rules}
 use Rattle.tidy_holders.proofs.moves.turned.Goals as goal
 
 pub note-requires-2 : goal.note-requires-2

@@ -1,6 +1,5 @@
 -- `tidy_holders::moves::turned_twice` meets its contract. Assumes nothing.
 use Rattle.tidy_holders.proofs.Noting.Noted.{twice-noted, still-moving}
-use borrow.Author.Rules.{rules}
 use Rattle.tidy_holders.proofs.moves.turned_twice.Goals as goal
 
 pub sons_moved-requires : goal.sons_moved-requires

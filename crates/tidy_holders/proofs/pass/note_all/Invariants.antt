@@ -1,9 +1,6 @@
 -- `tidy_holders::pass::note_all` meets its contract. Assumes nothing.
 use Prim.Native.Nat.{◌+◌, ◌-◌}
-use native.Mathlib.Omega.{arith}
-use Rattle.spelling.proofs.Opened.{headed}
-use Rattle.tidy_holders.proofs.Noting.Filling.{Filling, root-most, filling-start}
-use Rattle.tidy_holders.proofs.Noting.Filling.{filling-sons, filling-on, filling-end}
+use Rattle.tidy_holders.proofs.Noting.Filling.{Filling}
 use Rattle.tidy_holders.proofs.pass.note_all.Given as goal
 
 abbrev pub invariant-loop-k : goal.invariant-loop-k

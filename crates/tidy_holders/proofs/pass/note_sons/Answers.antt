@@ -2,7 +2,6 @@
 use mathlib.Core.Path.{◌∙◌, ap}
 use Rattle.scope.specs.declared.slot.Slot.{Slot}
 use Rattle.tidy_holders.proofs.Noting.Noted.{sons-noted}
-use borrow.Author.Rules.{rules}
 use Rattle.tidy_holders.proofs.pass.note_sons.Goals as goal
 
 pub note-requires : goal.note-requires

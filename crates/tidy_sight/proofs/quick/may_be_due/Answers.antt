@@ -1,7 +1,6 @@
 -- `tidy_sight::quick::may_be_due` meets its contract. Assumes nothing.
 use mathlib.Core.Path.{sym}
 use Rattle.tidy_sight.specs.MayBeDue.{may_be_due}
-use borrow.Author.Rules.{rules}
 use Rattle.tidy_sight.proofs.quick.may_be_due.Goals as goal
 
 pub returns : goal.returns

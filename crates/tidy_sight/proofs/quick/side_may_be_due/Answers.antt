@@ -4,7 +4,6 @@ use Rattle.spelling.proofs.Laws.{in_table}
 use Rattle.tidy_sight.specs.MayBeDue.{side_may_be_due}
 use Rattle.tidy_sight.proofs.Sights.{named}
 use Rattle.tidy_sight.proofs.Unlisted.{side-read}
-use borrow.Author.Rules.{rules}
 use Rattle.tidy_sight.proofs.quick.side_may_be_due.Goals as goal
 
 pub slot_at-su-requires : goal.slot_at-su-requires

@@ -1,6 +1,5 @@
 -- `tidy_sight::sight::allowed` meets its contract. Assumes nothing.
 use mathlib.Core.Path.{sym}
-use borrow.Author.Rules.{rules}
 use Rattle.tidy_sight.proofs.sight.allowed.Goals as goal
 
 pub returns : goal.returns

@@ -3,7 +3,6 @@ use mathlib.Core.Path.{sym, ◌∙◌}
 use Rattle.spelling.proofs.Laws.{in_table}
 use Rattle.tidy_sight.specs.Sight.{due_seen}
 use Rattle.tidy_sight.proofs.Sights.{named, due-third, due-two}
-use borrow.Author.Rules.{rules}
 use Rattle.tidy_sight.proofs.sight.due.Goals as goal
 
 pub slot_at-requires : goal.slot_at-requires

@@ -6,7 +6,6 @@ use Rattle.scope.proofs.Bools.{and_r}
 use Rattle.spelling.proofs.Laws.{in_table}
 use Rattle.tidy_sight.specs.Sight.{sight_of}
 use Rattle.tidy_sight.proofs.Sights.{named, sight-read}
-use borrow.Author.Rules.{rules}
 use Rattle.tidy_sight.proofs.sight.look.Goals as goal
 
 pub slot_at-su-requires : goal.slot_at-su-requires

@@ -1,7 +1,6 @@
 -- `tidy_sight::sight::nodes` meets its contract. Assumes nothing.
 use mathlib.Core.Path.{sym, ◌∙◌}
 use Rattle.tidy_sight.proofs.Sights.{u-there, w-there, nodes-third, nodes-two}
-use borrow.Author.Rules.{rules}
 use Rattle.tidy_sight.proofs.sight.nodes.Goals as goal
 
 pub slot_at-su-requires : goal.slot_at-su-requires
