@@ -55,13 +55,13 @@ missed t passed = record { answer = absence passed; words = t }
 abbrev pub admit : Bool → Bool → ℕ → Gate
 admit in_range whole c = cond in_range (cond whole (Open c) (Shut Damaged)) (Shut OutOfRange)
 
-abbrev pub onSlots : SlotsIs → (ℕ → Gate) → Gate
-onSlots Outside f = Shut WrongLength
-onSlots (Within s) f = f s.count
+abbrev pub on_slots : SlotsIs → (ℕ → Gate) → Gate
+on_slots Outside f = Shut WrongLength
+on_slots (Within s) f = f s.count
 
 -- tests 1, 2 and 3 in this order
 unfoldable pub gate : List ℕ → Bool → (ℕ → Bool) → Gate
-gate t in_range whole = onSlots (slots_in (length t)) (λ c. admit in_range (whole c) c)
+gate t in_range whole = on_slots (slots_in (length t)) (λ c. admit in_range (whole c) c)
 
 -- a call that only answers, past its gate
 abbrev pub answering : Gate → (ℕ → Answer) → Answer

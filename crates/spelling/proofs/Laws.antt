@@ -12,7 +12,7 @@ use Rattle.scope.specs.Numbers.{slots_of}
 use Rattle.scope.specs.Table.{head_words, slot_words, word, root_word, count_word, slots_in, base, slot_at, son, link_at}
 use Rattle.scope.specs.Table.{link_place, register_at, register_place, InTable}
 use Rattle.scope.specs.Fit.{state_ok, pieces_ok, link_ok, tail_fits, fit_slot, header_ok}
-use Rattle.scope.specs.Answers.{gate, onSlots, admit}
+use Rattle.scope.specs.Answers.{gate, on_slots, admit}
 use Rattle.scope.specs.declared.slot.Slot.{Slot}
 use Rattle.scope.specs.declared.slots.Slots.{Slots}
 use Rattle.scope.specs.declared.slots.SlotsIs.{SlotsIs}
@@ -67,7 +67,7 @@ admitted false whole n c e = never cc
 
 -- the same for a slot count that has been read
 gate-at : (t : List ℕ) (good : Bool) (whole : ℕ → Bool) (c : ℕ) (s : SlotsIs) → slots_in (length t) ≡ s
-    → onSlots s (λ n. admit good (whole n) n) ≡ Open c → Passed t good whole c
+    → on_slots s (λ n. admit good (whole n) n) ≡ Open c → Passed t good whole c
 gate-at t good whole c Outside q e = never cc
 gate-at t good whole c (Within s) q e =
     let p = admitted good (whole s.count) s.count c e in

@@ -8,7 +8,7 @@ use lib.ListN.{length}
 use Rattle.scope.proofs.Bools.{by_bool, never}
 use Rattle.scope.specs.Table.{slots_in}
 use Rattle.scope.specs.Fit.{header_ok}
-use Rattle.scope.specs.Answers.{gate, onSlots, admit}
+use Rattle.scope.specs.Answers.{gate, on_slots, admit}
 use Rattle.scope.specs.Sound.{sound_table}
 use Rattle.scope.specs.Sums.{sound_gate}
 use Rattle.scope.specs.declared.answer.Gate.{Gate}
@@ -35,8 +35,8 @@ was-asked t good c e o = (gate-passed t good (λ n. sound_table t n) c (sym e �
 
 -- where the header's gate is shut so is this one, and where it is open soundness decides
 module _ (t : List ℕ) where
-  shut_at : (good : Bool) (why : Refusal) (s : SlotsIs) → onSlots s (λ n. admit good (header_ok n t) n) ≡ Shut why
-      → onSlots s (λ n. admit good (sound_table t n) n) ≡ Shut why
+  shut_at : (good : Bool) (why : Refusal) (s : SlotsIs) → on_slots s (λ n. admit good (header_ok n t) n) ≡ Shut why
+      → on_slots s (λ n. admit good (sound_table t n) n) ≡ Shut why
   shut_at good why Outside e = e
   shut_at false why (Within s) e = e
   shut_at true why (Within s) e =
@@ -49,8 +49,8 @@ module _ (t : List ℕ) where
   unfolding gate
   shut-too good why e o = sym (shut_at good why (slots_in (length t)) (sym e ∙ o))
 
-  open_at : (good : Bool) (c : ℕ) (s : SlotsIs) → onSlots s (λ n. admit good (header_ok n t) n) ≡ Open c
-      → onSlots s (λ n. admit good (sound_table t n) n) ≡ cond (sound_table t c) (Open c) (Shut Damaged)
+  open_at : (good : Bool) (c : ℕ) (s : SlotsIs) → on_slots s (λ n. admit good (header_ok n t) n) ≡ Open c
+      → on_slots s (λ n. admit good (sound_table t n) n) ≡ cond (sound_table t c) (Open c) (Shut Damaged)
   open_at good c Outside e = never cc
   open_at false c (Within s) e = never cc
   open_at true c (Within s) e =

@@ -100,7 +100,7 @@ module _ {t : List ℕ} {c : ℕ} (l : Link) (s : Side) (dv du dw : Batch) (v u 
   twice_in = (w-in, (w-in, (in-u, (in-v, (in-u, (in-v, (w-in, (w-in, tt))))))))
 
   module _ {t' : List ℕ} (r : Rewritten t t' c (rotated_twice s three_nodes))
-      (lowU : localh (doubled_u u w) ≤ most_height) (lowV : localh (doubled_v v w) ≤ most_height) where
+      (low_u : localh (doubled_u u w) ≤ most_height) (low_v : localh (doubled_v v w) ≤ most_height) where
     slot-v : slot_at t' x
         ≡ shape s (slot_at t x) (son (slot_at t z) (other s)) (son (slot_at t x) (other s))
         (doubled_v (seen s (slot_at t x)) (seen s (slot_at t z)))
@@ -161,11 +161,11 @@ module _ {t : List ℕ} {c : ℕ} (l : Link) (s : Side) (dv du dw : Batch) (v u 
         let fv = fit-from c (slot_at t x) lv.fit s in
         let fu = fit-from c (slot_at t y) lu.fit s in
         let fw = fit-from c (slot_at t z) look-w.fit s in
-        let highU = rw (lu.registers, look-w.registers) at lowU in
-        let highV = rw (lv.registers, look-w.registers) at lowV in
+        let high_u = rw (lu.registers, look-w.registers) at low_u in
+        let high_v = rw (lv.registers, look-w.registers) at low_v in
         rw (lv.registers, lu.registers, look-w.registers)
         (spell t' c z dw _ _ _ s (slot_at t z) y x look-w.there slot-w
-        (fw.other_links y x _ (link_on c y _ lu.there in-u.most highU) (link_on c x _ lv.there h.most highV))
+        (fw.other_links y x _ (link_on c y _ lu.there in-u.most high_u) (link_on c x _ lv.there h.most high_v))
         look-w.holds
         (spell t' c y du _ m e s (slot_at t y) _ _ lu.there slot-u
         (fu.other_links _ _ _ fu.near fw.near) lu.holds
@@ -180,14 +180,14 @@ module _ {t : List ℕ} {c : ℕ} (l : Link) (s : Side) (dv du dw : Batch) (v u 
       → ChangedBelow t (written t (writes (rotated_twice s three_nodes))) c l whole (doubled s dv du v u dw w m e f far)
   twice-below low =
       let r = rewritten h.sized (rotated_twice s three_nodes) (h.holder, in-inside c _ turns twice_in) in
-      let lowU : localh (doubled_u u w) ≤ most_height = omega arith in
-      let lowV : localh (doubled_v v w) ≤ most_height = omega arith in
+      let low_u : localh (doubled_u u w) ≤ most_height = omega arith in
+      let low_v : localh (doubled_v v w) ≤ most_height = omega arith in
       (record {
         sized = r.sized;
         top = z;
         first = look-w.there;
         most = w-in.most;
-        spells = twice-spells r lowU lowV;
+        spells = twice-spells r low_u low_v;
         slots = outside-slots _ l z turns twice_in r;
         root = outside-root _ l z turns twice_in r;
         head = r.head;

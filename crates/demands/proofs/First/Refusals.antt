@@ -9,7 +9,7 @@ use Rattle.scope.proofs.Bools.{neither}
 use Rattle.scope.specs.Numbers.{last_change}
 use Rattle.scope.specs.Table.{word, count_word, change_word, slots_in, slot_at}
 use Rattle.scope.specs.Fit.{blank_slot, header_ok, record_ok}
-use Rattle.scope.specs.Answers.{Done, code_of, refused, gate, answering, admit, onSlots}
+use Rattle.scope.specs.Answers.{Done, code_of, refused, gate, answering, admit, on_slots}
 use Rattle.scope.specs.Walk.{walk_of}
 use Rattle.scope.specs.Find.{started, start_of, found_in, find_answer}
 use Rattle.scope.specs.Post.{free_slot, posting, hang_at, posting_at, post_plan, posted, post_of, leaf_slot}
@@ -86,7 +86,7 @@ module _ (x : Call) (t : List ℕ) (good : Bool) (whole : ℕ → Bool) (F : Gat
       tests s true false p q e = rw (shut Damaged) (refuses Damaged (three s.count q))
       tests s false h p q e = rw (shut OutOfRange) (refuses OutOfRange (two p))
 
-      on : (s : SlotsIs) → slots_in (length t) ≡ s → Answered x t (F (onSlots s (λ c. admit good (whole c) c)))
+      on : (s : SlotsIs) → slots_in (length t) ≡ s → Answered x t (F (on_slots s (λ c. admit good (whole c) c)))
       on Outside e = rw (shut WrongLength) (refuses WrongLength one)
       on (Within s) e = tests s good (whole s.count) refl refl e
 
