@@ -2,7 +2,7 @@
 use Prim.Native.Nat.{ℕ, ◌+◌, ◌≤◌, ◌<◌}
 use mathlib.Core.Path.{◌≡◌, refl, sym, ap, ◌∙◌}
 use mathlib.Core.Bool.{Bool, true, false}
-use mathlib.Core.List.{List, [], ◌++◌, append-nil, append_assoc}
+use mathlib.Core.List.{List, [], ◌++◌, append-nil}
 use native.Mathlib.Omega.{arith}
 use lib.ListN.{length, take, length-append}
 use lib.Seq.{take_all}
@@ -10,26 +10,16 @@ use Rattle.std.proofs.Math.Seq.{take-add}
 use Rattle.std.specs.Prelude.{None, Some, IfSome}
 use Rattle.std.specs.declared.option.Option.{Option}
 use Rattle.std.specs.Io.KnownBytes.{Appends, Consumes, IsAtEnd}
+use Rattle.std.proofs.KnownBytes.{Appends-trans}
 use Rattle.stand_shift.specs.Run.{most_input, run_text, AnsweredSo}
 use Rattle.stand_shift.proofs.Telling.{ToldSoFar, told-piece, too_long}
-
--- no piece, and one piece more
-pub appends-none : (a : Option (List ℕ)) → Appends a a []
-appends-none None = tt
-appends-none (Some x) = sym (append-nil x)
-
-appends-then : (a b c : Option (List ℕ)) (x y : List ℕ) → Appends a b x → Appends b c y → Appends a c (x ++ y)
-appends-then None b c x y p q = tt
-appends-then (Some s) None c x y p q = absurd p
-appends-then (Some s) (Some t) None x y p q = absurd q
-appends-then (Some s) (Some t) (Some u) x y p q = q ∙ ap (λ (l : List ℕ). l ++ y) p ∙ append_assoc s x y
 
 -- THE FILLED PART OF THE BUFFER IS WRITTEN BEHIND WHAT WAS HANDED ON BEFORE
 pub written-more : (a b c : Option (List ℕ)) {s t u out : List ℕ} {from sent next at : ℕ} → ToldSoFar s t from sent
     → AnsweredSo t s from u out next at → length s ≤ most_input → Appends a b (take sent (run_text s))
     → Appends b c (take at out) → Appends a c (take (sent + at) (run_text s))
 written-more a b c {s} {t} {u} {out} {from} {sent} {next} {at} w f h p q =
-    rw (take-add sent at (run_text s), sym (told-piece w f h)) (appends-then a b c _ _ p q)
+    rw (take-add sent at (run_text s), sym (told-piece w f h)) (Appends-trans a b c _ _ p q)
 
 -- and at the end all of it
 pub written-all : (a b : Option (List ℕ)) (sent : ℕ) (s : List ℕ) → sent ≡ length (run_text s)
