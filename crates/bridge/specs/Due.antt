@@ -3,12 +3,12 @@ use Rattle.std.specs.Prelude.{ℕ, ◌≤◌, ◌<◌, ◌≡◌, true, List}
 use Rattle.scope.specs.Numbers.{rule_of}
 use Rattle.scope.specs.Tidy.{due_at}
 use Rattle.scope.specs.declared.rule.Rule.{Rule}
-use Rattle.scope.specs.declared.rule.RuleIs.TheVariants.{Known}
+use Rattle.std.specs.Prelude.{Some}
 
 -- number n is that of a rule that is due at slot v
 pub record Due (t : List ℕ) (c v n : ℕ) : Type 0 where
   pub rule : Rule
-  pub is : rule_of n ≡ Known rule
+  pub is : rule_of n ≡ Some rule
   pub first : 1 ≤ v
   pub most : v ≤ c
   pub due : due_at t c rule v ≡ true

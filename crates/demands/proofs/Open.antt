@@ -17,8 +17,6 @@ use Rattle.scope.specs.Tidy.{quiet}
 use Rattle.scope.specs.declared.answer.Refusal.{Refusal}
 use Rattle.scope.specs.declared.answer.Refusal.TheVariants.{WrongLength, OutOfRange, Damaged, KeyPresent, KeyAbsent}
 use Rattle.scope.specs.declared.answer.Refusal.TheVariants.{NoFreeSlot, LastChange, GuardFails, TooHigh, Unreadable}
-use Rattle.scope.specs.declared.answer.Gate.{Gate}
-use Rattle.scope.specs.declared.answer.Gate.TheVariants.{Shut, Open}
 use Rattle.spelling.specs.Ready.{Sized}
 use Rattle.spelling.specs.Whole.{Whole}
 use Rattle.spelling.proofs.Laws.{header-count}
@@ -35,6 +33,7 @@ use Rattle.bridge.proofs.Resting.Quiets.{quiet-tree}
 use Rattle.bridge.proofs.Resting.Rests.{quiet-words}
 use Rattle.demands.specs.Exactly.{Exactly}
 use Rattle.demands.specs.Fires.{worth_in}
+use Rattle.std.specs.Prelude.{Result, Ok, Err}
 
 -- a sound table with the tree that its words spell
 abbrev pub own_tree : {t : List ℕ} {c : ℕ} → Whole t c → Whole t c
@@ -56,15 +55,15 @@ own_tree {t} {c} w =
 
 -- the gate of a call on a table that passes its third test: open, or shut where an argument is out of range
 pub gate-is : {t : List ℕ} {c : ℕ} (whole : ℕ → Bool) → Sized t c → whole c ≡ true → (good : Bool)
-    → gate t good whole ≡ cond good (Open c) (Shut OutOfRange)
+    → gate t good whole ≡ cond good (Ok c) (Err OutOfRange)
 unfolding gate
 gate-is whole z h good = rw (sized-slots z, h) refl
 
 module _ {t : List ℕ} {c : ℕ} (w : Whole t c) where
-  pub header-gate : (good : Bool) → gate t good (λ n. header_ok n t) ≡ cond good (Open c) (Shut OutOfRange)
+  pub header-gate : (good : Bool) → gate t good (λ n. header_ok n t) ≡ cond good (Ok c) (Err OutOfRange)
   header-gate = gate-is (λ n. header_ok n t) w.sized w.sound.header
 
-  pub sound-gate : (good : Bool) → sound_gate t good ≡ cond good (Open c) (Shut OutOfRange)
+  pub sound-gate : (good : Bool) → sound_gate t good ≡ cond good (Ok c) (Err OutOfRange)
   sound-gate = gate-is (λ n. sound_table t n) w.sized (sound-test t c w.sound)
 
 -- no refusal has code 0
@@ -90,10 +89,10 @@ pub record Sounds (t : List ℕ) : Type 0 where
   pub slots : ℕ
   pub whole : Whole t slots
 
-checked : (t : List ℕ) (g : Gate) → sound_gate t true ≡ g
+checked : (t : List ℕ) (g : Result ℕ Refusal) → sound_gate t true ≡ g
     → (answering g (λ c. accepted (word t change_word) 0 0 0)).code ≡ 0 → Sounds t
-checked t (Shut why) q e = absurd (some-code why e)
-checked t (Open c) q e = record { slots = c; whole = opened t true c refl q }
+checked t (Err why) q e = absurd (some-code why e)
+checked t (Ok c) q e = record { slots = c; whole = opened t true c refl q }
 
 pub check-sounds : (t : List ℕ) → (check_answer t).code ≡ 0 → Sounds t
 unfolding check_answer

@@ -8,22 +8,21 @@ use Rattle.scope.specs.Sound.{tree_in}
 use Rattle.scope.specs.Answers.{Done, code_of, accepted, refused}
 use Rattle.scope.specs.declared.answer.Refusal.TheVariants.{OutOfRange, GuardFails, TooHigh}
 use Rattle.scope.specs.declared.rule.Rule.{Rule}
-use Rattle.scope.specs.declared.rule.RuleIs.TheVariants as rule-is
 use Rattle.scope.specs.declared.side.Link.{Link}
-use Rattle.scope.specs.declared.side.LinkIs.TheVariants as link-is
 use Rattle.tree.specs.Rewrite.{fire_at, accept_at}
 use Rattle.bridge.specs.Leads.{Leads}
 use Rattle.bridge.specs.Fired.{Fired}
 use Rattle.demands.specs.Exactly.{Exactly}
 use Rattle.demands.specs.Listed.{among}
 use Rattle.demands.specs.Fires.{Trial}
+use Rattle.std.specs.Prelude.{Some}
 
 -- the rule and the link that the numbers name, on a table of c slots
 pub record Named (c : ℕ) (x : Trial) : Type 0 where
   pub rule : Rule
   pub link : Link
-  pub is_rule : rule_of x.rule ≡ rule-is.Known rule
-  pub is_link : link_of c x.holder x.side ≡ link-is.Known link
+  pub is_rule : rule_of x.rule ≡ Some rule
+  pub is_link : link_of c x.holder x.side ≡ Some link
 
 -- and a way to that link, down the tree that the table spells
 pub record NamedPlace (t : List ℕ) (c : ℕ) (x : Trial) : Type 0 where

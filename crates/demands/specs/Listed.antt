@@ -9,12 +9,12 @@ use Rattle.scope.specs.Calls.{Call, Start, Check, Find, Post, Amend, Drop, Rank,
 use Rattle.scope.specs.declared.answer.Answer.{Answer}
 use Rattle.scope.specs.declared.side.Link.{Link}
 use Rattle.scope.specs.declared.slots.Slots.{Slots}
-use Rattle.scope.specs.declared.slots.SlotsIs.TheVariants.{Within}
 use Rattle.scope.specs.declared.outcome.Passed.{Passed}
 use Rattle.scope.specs.declared.outcome.Walk.TheVariants.{Miss}
 use Rattle.scope.specs.declared.answer.Refusal.{Refusal}
 use Rattle.scope.specs.declared.answer.Refusal.TheVariants.{WrongLength, OutOfRange, Damaged, KeyPresent, KeyAbsent}
 use Rattle.scope.specs.declared.answer.Refusal.TheVariants.{NoFreeSlot, LastChange, GuardFails, TooHigh}
+use Rattle.std.specs.Prelude.{Some}
 
 -- the refusals of each call that are a code and four zeros
 abbrev pub bare_refusals : Call → List Refusal
@@ -74,7 +74,7 @@ pub record LacksKey (x : Call) (t : List ℕ) : Type 0 where
 -- the walk to a key through all the slots of a table ends at an empty link
 pub record Misses (t : List ℕ) (key : ℕ) : Type 0 where
   pub slots : Slots
-  pub sized : slots_in (length t) ≡ Within slots
+  pub sized : slots_in (length t) ≡ Some slots
   pub link : Link
   pub passed : Passed
   pub seen : ℕ

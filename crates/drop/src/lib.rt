@@ -19,7 +19,7 @@ pub fn relink(t: &mut [u32], link: Link, son: usize)
     requires { Linkable t.old link son }
     ensures { t.new ≡ relinked t.old link son }
 {
-    words::put_link(t, link, son);
+    words::put_link(t, link, son as u32);
     let holder = link.holder;
     if (son != 0) | (holder == Link::ROOT) {
         return;
@@ -51,9 +51,9 @@ pub fn vacate(t: &mut [u32], slot: usize, count: usize, change: u32) -> Answer
 // A record with at most one son: the son takes its link.
 pub fn lift(t: &mut [u32], slot: usize, link: Link, son: usize) -> Answer
     requires { Liftable t.old slot link son }
-    ensures { Does (dropped t.old (Lift slot link son)) result t.new }
+    ensures { Does (dropped t.old (Ok (Lift slot link son))) result t.new }
 {
-    let count = words::records(t);
+    let count = words::records(t) as usize;
     let change = words::change(t);
     relink(t, link, son);
     vacate(t, slot, count, change)
@@ -62,13 +62,13 @@ pub fn lift(t: &mut [u32], slot: usize, link: Link, son: usize) -> Answer
 // A record with two sons: the least of its right side takes its place.
 pub fn replace(t: &mut [u32], slot: usize, least: usize, link: Link) -> Answer
     requires { Replaceable t.old slot least link }
-    ensures { Does (dropped t.old (Replace slot least link)) result t.new }
+    ensures { Does (dropped t.old (Ok (Replace slot least link))) result t.new }
 {
-    let count = words::records(t);
+    let count = words::records(t) as usize;
     let change = words::change(t);
     let m = words::slot_at(t, least);
     take_record(t, slot, m);
-    relink(t, link, words::wide(m.right));
+    relink(t, link, m.right as usize);
     vacate(t, least, count, change)
 }
 
@@ -77,9 +77,8 @@ pub fn drop(t: &mut [u32], key: u32) -> Answer
     ensures { Promise (Drop key) t.old result t.new }
 {
     match plan_drop(t, key) {
-        Dropping::Refuse(why) => gate::refuse(why),
-        Dropping::Absent(passed) => gate::absent(passed),
-        Dropping::Lift { slot, link, son } => lift(t, slot, link, son),
-        Dropping::Replace { slot, least, link } => replace(t, slot, least, link),
+        Err(why) => gate::deny(why),
+        Ok(Dropping::Lift { slot, link, son }) => lift(t, slot, link, son),
+        Ok(Dropping::Replace { slot, least, link }) => replace(t, slot, least, link),
     }
 }

@@ -7,21 +7,20 @@ use Rattle.scope.specs.declared.slot.Slot.{Slot}
 use Rattle.scope.specs.declared.side.Side.{Side}
 use Rattle.scope.specs.declared.side.Link.{Link}
 use Rattle.scope.specs.declared.outcome.Dropping.{Dropping}
-use Rattle.scope.specs.declared.outcome.Dropping.TheVariants.{Refuse, Absent, Lift, Replace}
+use Rattle.scope.specs.declared.outcome.Dropping.TheVariants.{Lift, Replace}
 use Rattle.spelling.proofs.Laws.{fit-son}
 use Rattle.drop_plan.specs.Planned.{FoundAt, Lifting, DropAimed, MayDrop, CanDrop}
+use Rattle.std.specs.Prelude.{Ok}
 
 -- a plan that is aimed at the table can be carried out once a record is counted and a change number is left
-pub can-drop : (t : List ℕ) (plan : Dropping) → DropAimed t plan → MayDrop t → CanDrop t plan
-can-drop t (Refuse why) a m = tt
-can-drop t (Absent passed) a m = tt
+pub can-drop : (t : List ℕ) (plan : Dropping) → DropAimed t plan → MayDrop t → CanDrop t (Ok plan)
 can-drop t (Lift slot link son) a m = record { aimed = a; may = m }
 can-drop t (Replace slot least link) a m = record { aimed = a; may = m }
 
 -- of a record that was found, a son as it was read lies in the table, and the record can be lifted out
 module _ {t : List ℕ} {c slot seen : ℕ} {link : Link} (found : FoundAt t c slot link seen) where
-  pub read-son : (side : Side) {s : Slot} {next : ℕ} → s ≡ slot_at t slot → next ≡ son s side → next ≤ c
-  read-son side e q = simp (q, e) (fit-son c (slot_at t slot) side found.fits)
+  pub read-son : (side : Side) {s : Slot} → s ≡ slot_at t slot → son s side ≤ c
+  read-son side e = rw e (fit-son c (slot_at t slot) side found.fits)
 
   pub aim-lift : {next : ℕ} → next ≤ c → Lifting t slot link next
   aim-lift le = record {

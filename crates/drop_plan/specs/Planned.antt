@@ -8,11 +8,12 @@ use Rattle.scope.specs.declared.side.Side.TheVariants.{Right}
 use Rattle.scope.specs.declared.outcome.Walk.{Walk}
 use Rattle.scope.specs.declared.outcome.Walk.TheVariants as walk
 use Rattle.scope.specs.declared.outcome.Leftmost.{Leftmost}
-use Rattle.scope.specs.declared.outcome.Leftmost.TheVariants as leftmost
 use Rattle.scope.specs.declared.outcome.Dropping.{Dropping}
-use Rattle.scope.specs.declared.outcome.Dropping.TheVariants.{Refuse, Absent, Lift, Replace}
+use Rattle.scope.specs.declared.outcome.Dropping.TheVariants.{Lift, Replace}
 use Rattle.spelling.specs.Ready.{Sized, Ready}
 use Rattle.gate.specs.AtSlot.{AtSlot}
+use Rattle.std.specs.Prelude.{Option, Some, None, Result, Ok, Err}
+use Rattle.scope.specs.declared.answer.Denial.{Denial}
 
 -- the slot of a hit is fit
 abbrev pub HitFits : List ℕ → ℕ → Walk → Type 0
@@ -41,11 +42,11 @@ pub record Linkable (t : List ℕ) (link : Link) (son : ℕ) : Type 0 where
   pub below : son ≤ slots
 
 -- the leftmost slot of a subtree and what hangs on its right lie among c slots
-abbrev pub LeastInside : List ℕ → ℕ → Leftmost → Type 0
-LeastInside t c leftmost.Broken = Unit {0}
-LeastInside t c (leftmost.Is least link) = (1 ≤ least) × (least ≤ c) × (link.holder ≤ c) × ((slot_at t least).right ≤ c)
+abbrev pub LeastInside : List ℕ → ℕ → Option Leftmost → Type 0
+LeastInside t c None = Unit {0}
+LeastInside t c (Some m) = (1 ≤ m.slot) × (m.slot ≤ c) × (m.link.holder ≤ c) × ((slot_at t m.slot).right ≤ c)
 
-pub record LeastReached (t : List ℕ) (c : ℕ) (end r : Leftmost) : Type 0 where
+pub record LeastReached (t : List ℕ) (c : ℕ) (end r : Option Leftmost) : Type 0 where
   pub is : r ≡ end
   pub inside : LeastInside t c r
 
@@ -57,11 +58,9 @@ pub record Lifting (t : List ℕ) (slot : ℕ) (link : Link) (son : ℕ) : Type 
 
 pub record Replacing (t : List ℕ) (slot least : ℕ) (link : Link) : Type 0 where
   pub placed : AtSlot t slot
-  pub inside : LeastInside t placed.slots (leftmost.Is least link)
+  pub inside : LeastInside t placed.slots (Some (record { slot = least; link = link }))
 
 abbrev pub DropAimed : List ℕ → Dropping → Type 0
-DropAimed t (Refuse why) = Unit {0}
-DropAimed t (Absent passed) = Unit {0}
 DropAimed t (Lift slot link son) = Lifting t slot link son
 DropAimed t (Replace slot least link) = Replacing t slot least link
 
@@ -78,13 +77,12 @@ pub record Replaceable (t : List ℕ) (slot least : ℕ) (link : Link) : Type 0 
   pub aimed : Replacing t slot least link
   pub may : MayDrop t
 
-abbrev pub CanDrop : List ℕ → Dropping → Type 0
-CanDrop t (Refuse why) = Unit {0}
-CanDrop t (Absent passed) = Unit {0}
-CanDrop t (Lift slot link son) = Liftable t slot link son
-CanDrop t (Replace slot least link) = Replaceable t slot least link
+abbrev pub CanDrop : List ℕ → Result Dropping Denial → Type 0
+CanDrop t (Err why) = Unit {0}
+CanDrop t (Ok (Lift slot link son)) = Liftable t slot link son
+CanDrop t (Ok (Replace slot least link)) = Replaceable t slot least link
 
 -- the plan of a drop is the defined one and can be carried out
-pub record DropPlanned (t : List ℕ) (plan r : Dropping) : Type 0 where
+pub record DropPlanned (t : List ℕ) (plan r : Result Dropping Denial) : Type 0 where
   pub is : r ≡ plan
   pub can : CanDrop t r

@@ -8,7 +8,7 @@ ghost use Rattle.fire_aim.specs.Aimed.{NodesWithin};
 ghost use Rattle.fire_act.specs.Wrote.{InNodes, Kept, HeightsLow};
 ghost use Rattle.spelling.specs.Ready.{Sized};
 
-use crate::put::{copy_register, put_branch, put_height, put_son, put_top};
+use crate::put::{put_height, put_son, put_top};
 use scope::{Kind, Nodes, Rule, Side};
 
 // v's near register takes u's local height.
@@ -21,7 +21,7 @@ pub fn propagate(t: &mut [u32], c: usize, n: Nodes, near: Side)
         c,
         n.v,
         near,
-        fire_guards::localh(fire_guards::seen(n.su, near)),
+        fire_guards::localh(fire_guards::seen(n.su, near)) as u32,
     );
 }
 
@@ -33,8 +33,8 @@ pub fn rotate_links(t: &mut [u32], c: usize, n: Nodes, near: Side)
     let link = n.link;
     let far = near.other();
     put_top(t, c, link, n.u);
-    put_son(t, c, n.u, far, n.v);
-    put_branch(t, c, n.v, near, words::son_word(n.su, far));
+    put_son(t, c, n.u, far, n.v as u32);
+    put_son(t, c, n.v, near, words::son(n.su, far));
 }
 
 // v takes u's far register as its near one, and u v's new local height as its far one.
@@ -45,8 +45,8 @@ pub fn rotate_heights(t: &mut [u32], c: usize, n: Nodes, near: Side)
     let far = near.other();
     let v = fire_guards::seen(n.sv, near);
     let u = fire_guards::seen(n.su, near);
-    copy_register(t, c, n.v, near, u.far);
-    put_height(t, c, n.u, far, fire_guards::over(u.far, v.far));
+    put_height(t, c, n.v, near, u.far);
+    put_height(t, c, n.u, far, fire_guards::over(u.far, v.far) as u32);
 }
 
 pub fn rotate(t: &mut [u32], c: usize, n: Nodes, near: Side)
@@ -64,8 +64,8 @@ pub fn twice_top(t: &mut [u32], c: usize, n: Nodes, near: Side)
 {
     let link = n.link;
     put_top(t, c, link, n.w);
-    put_son(t, c, n.w, near, n.u);
-    put_son(t, c, n.w, near.other(), n.v);
+    put_son(t, c, n.w, near, n.u as u32);
+    put_son(t, c, n.w, near.other(), n.v as u32);
 }
 
 // w's old sons go to u's far side and v's near side.
@@ -74,8 +74,8 @@ pub fn twice_sons(t: &mut [u32], c: usize, n: Nodes, near: Side)
     ensures { Kept c (written t.old (writes (twice_sons near n))) t.new }
 {
     let far = near.other();
-    put_branch(t, c, n.u, far, words::son_word(n.sw, near));
-    put_branch(t, c, n.v, near, words::son_word(n.sw, far));
+    put_son(t, c, n.u, far, words::son(n.sw, near));
+    put_son(t, c, n.v, near, words::son(n.sw, far));
 }
 
 // Their registers go with them.
@@ -84,8 +84,8 @@ pub fn twice_copied(t: &mut [u32], c: usize, n: Nodes, near: Side)
     ensures { Kept c (written t.old (writes (twice_copied near n))) t.new }
 {
     let w = fire_guards::seen(n.sw, near);
-    copy_register(t, c, n.u, near.other(), w.near);
-    copy_register(t, c, n.v, near, w.far);
+    put_height(t, c, n.u, near.other(), w.near);
+    put_height(t, c, n.v, near, w.far);
 }
 
 // w's registers take the new local heights of u and v.
@@ -96,8 +96,14 @@ pub fn twice_heights(t: &mut [u32], c: usize, n: Nodes, near: Side)
     let v = fire_guards::seen(n.sv, near);
     let u = fire_guards::seen(n.su, near);
     let w = fire_guards::seen(n.sw, near);
-    put_height(t, c, n.w, near, fire_guards::over(u.near, w.near));
-    put_height(t, c, n.w, near.other(), fire_guards::over(w.far, v.far));
+    put_height(t, c, n.w, near, fire_guards::over(u.near, w.near) as u32);
+    put_height(
+        t,
+        c,
+        n.w,
+        near.other(),
+        fire_guards::over(w.far, v.far) as u32,
+    );
 }
 
 pub fn rotate_twice(t: &mut [u32], c: usize, n: Nodes, near: Side)

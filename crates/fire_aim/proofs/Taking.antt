@@ -11,7 +11,7 @@ use Rattle.scope.specs.Table.{slot_at}
 use Rattle.scope.specs.Fit.{fit_slot}
 use Rattle.scope.specs.Fire.{take_of}
 use Rattle.scope.specs.declared.slot.Slot.{Slot}
-use Rattle.scope.specs.declared.outcome.Taken.TheVariants.{Got}
+use Rattle.std.specs.Prelude.{Ok}
 
 -- it is there, and fit
 pub record Took (t : List ℕ) (c k : ℕ) (s : Slot) : Type 0 where
@@ -19,7 +19,7 @@ pub record Took (t : List ℕ) (c k : ℕ) (s : Slot) : Type 0 where
   pub is : s ≡ slot_at t k
   pub fit : fit_slot c s ≡ true
 
-pub took : (t : List ℕ) (c k a b e : ℕ) {s : Slot} → take_of t c k a b e ≡ Got s → Took t c k s
+pub took : (t : List ℕ) (c k a b e : ℕ) {s : Slot} → take_of t c k a b e ≡ Ok s → Took t c k s
 unfolding take_of
 took t c k a b e {s} q =
     by_bool (eqb k 0)

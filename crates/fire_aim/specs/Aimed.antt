@@ -6,9 +6,9 @@ use Rattle.scope.specs.Rules.{highest_at}
 use Rattle.scope.specs.declared.rule.Rule.{Rule}
 use Rattle.scope.specs.declared.side.Link.{Link}
 use Rattle.scope.specs.declared.outcome.Nodes.{Nodes}
-use Rattle.scope.specs.declared.outcome.Firing.{Firing}
-use Rattle.scope.specs.declared.outcome.Firing.TheVariants.{Refuse, Fire}
 use Rattle.spelling.specs.Ready.{Sized}
+use Rattle.std.specs.Prelude.{Result, Ok, Err}
+use Rattle.scope.specs.declared.answer.Refusal.{Refusal}
 
 -- a link of a table of c slots that holds a slot of it, or nothing
 pub record LinkReached (t : List ℕ) (c : ℕ) (link : Link) : Type 0 where
@@ -38,11 +38,11 @@ pub record NodesWithin (c : ℕ) (r : Rule) (n : Nodes) : Type 0 where
   pub nodes : NodesInside c n
   pub height : highest_at r n ≤ most_height
 
-abbrev pub MayFire : ℕ → Firing → Type 0
-MayFire c (Refuse why) = Unit {0}
-MayFire c (Fire r n) = NodesWithin c r n
+abbrev pub MayFire : ℕ → Result (Rule × Nodes) Refusal → Type 0
+MayFire c (Err why) = Unit {0}
+MayFire c (Ok (r, n)) = NodesWithin c r n
 
 -- a firing as defined, that may be carried out in a table of c slots
-pub record Aimed (c : ℕ) (plan f : Firing) : Type 0 where
+pub record Aimed (c : ℕ) (plan f : Result (Rule × Nodes) Refusal) : Type 0 where
   pub is : f ≡ plan
   pub may : MayFire c f

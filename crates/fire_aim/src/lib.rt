@@ -9,21 +9,22 @@ ghost use Rattle.scope.specs.Fire.{take_of, judged, has_third, aim_w, aim_u, aim
 ghost use Rattle.spelling.specs.Ready.{Sized, Ready};
 ghost use Rattle.fire_aim.specs.Aimed.{Aimed, Nearby, LinkReached};
 
-use scope::{Firing, Height, HeightIs, Kind, Link, Nodes, Refusal, Rule, Slot, State, Taken};
+use scope::{Height, Kind, Link, Nodes, Refusal, Rule, Slot, State};
 
-// A slot that a firing names: it has to be there, fit, and none of the slots a, b and e before it.
-pub fn take(t: &[u32], c: usize, k: usize, a: usize, b: usize, e: usize) -> Taken
+// A slot that a firing names: it has to be there, fit, and none of the slots a, b and e before it. Slot 0 is none, as in
+// the table (`take_of`).
+pub fn take(t: &[u32], c: usize, k: usize, a: usize, b: usize, e: usize) -> Result<Slot, Refusal>
     requires { Sized t.now c × (k ≤ c) }
     ensures { result ≡ take_of t.now c k a b e }
 {
     if k == 0 {
-        return Taken::Not(Refusal::GuardFails);
+        return Err(Refusal::GuardFails);
     }
     let s = words::slot_at(t, k);
     if gate::fit(c, s) & (k != a) & (k != b) & (k != e) {
-        Taken::Got(s)
+        Ok(s)
     } else {
-        Taken::Not(Refusal::Damaged)
+        Err(Refusal::Damaged)
     }
 }
 
@@ -42,6 +43,7 @@ pub fn guarded(r: Rule, n: Nodes) -> bool
 }
 
 // The heights that its action works out are heights.
+#[tactic(auto, unfolding(scope::specs::Rules::highest_at, scope::specs::Numbers::height_of))]
 pub fn within(r: Rule, n: Nodes) -> bool
     ensures { result ≡ leb (highest_at r n) most_height }
 {
@@ -53,23 +55,20 @@ pub fn within(r: Rule, n: Nodes) -> bool
         fire_guards::seen(n.su, side),
         fire_guards::seen(n.sw, side),
     );
-    match Height::of(h) {
-        HeightIs::Within(_) => true,
-        HeightIs::Above => false,
-    }
+    Height::try_from(h).is_ok()
 }
 
-pub fn judge(r: Rule, n: Nodes) -> Firing
+#[tactic(auto, unfolding(scope::specs::Fire::judged))]
+pub fn judge(r: Rule, n: Nodes) -> Result<(Rule, Nodes), Refusal>
     ensures { result ≡ judged r n }
 {
-    if guarded(r, n) {
-        if within(r, n) {
-            Firing::Fire(r, n)
-        } else {
-            Firing::Refuse(Refusal::TooHigh)
-        }
+    if !guarded(r, n) {
+        return Err(Refusal::GuardFails);
+    }
+    if within(r, n) {
+        Ok((r, n))
     } else {
-        Firing::Refuse(Refusal::GuardFails)
+        Err(Refusal::TooHigh)
     }
 }
 
@@ -77,12 +76,7 @@ pub fn judge(r: Rule, n: Nodes) -> Firing
 pub fn has_third(kind: Kind) -> bool
     ensures { result ≡ has_third kind }
 {
-    match kind {
-        Kind::Propagate => false,
-        Kind::Lean => false,
-        Kind::Even => false,
-        Kind::Double => true,
-    }
+    kind == Kind::Double
 }
 
 pub fn aim_w(
@@ -94,72 +88,70 @@ pub fn aim_w(
     sv: Slot,
     u: usize,
     su: Slot,
-) -> Firing
+) -> Result<(Rule, Nodes), Refusal>
     requires { Nearby t.now c link v × (1 ≤ u) × (u ≤ c) × (son su (other r.side) ≤ c) }
     ensures { Aimed c (aim_w t.now c r link v sv u su) result }
 {
     let side = r.side;
-    let w = words::son(su, side.other());
-    match take(t, c, w, link.holder, v, u) {
-        Taken::Not(why) => Firing::Refuse(why),
-        Taken::Got(sw) => judge(
-            r,
-            Nodes {
-                link,
-                v,
-                u,
-                w,
-                sv,
-                su,
-                sw,
-            },
-        ),
-    }
+    let w = words::son(su, side.other()) as usize;
+    let sw = take(t, c, w, link.holder, v, u)?;
+    judge(
+        r,
+        Nodes {
+            link,
+            v,
+            u,
+            w,
+            sv,
+            su,
+            sw,
+        },
+    )
 }
 
-pub fn aim_u(t: &[u32], c: usize, r: Rule, link: Link, v: usize, sv: Slot) -> Firing
+pub fn aim_u(
+    t: &[u32],
+    c: usize,
+    r: Rule,
+    link: Link,
+    v: usize,
+    sv: Slot,
+) -> Result<(Rule, Nodes), Refusal>
     requires { Nearby t.now c link v × (son sv r.side ≤ c) }
     ensures { Aimed c (aim_u t.now c r link v sv) result }
 {
     let kind = r.kind;
     let side = r.side;
-    let u = words::son(sv, side);
-    match take(t, c, u, link.holder, v, 0) {
-        Taken::Not(why) => Firing::Refuse(why),
-        Taken::Got(su) => {
-            if has_third(kind) {
-                aim_w(t, c, r, link, v, sv, u, su)
-            } else {
-                judge(
-                    r,
-                    Nodes {
-                        link,
-                        v,
-                        u,
-                        w: u,
-                        sv,
-                        su,
-                        sw: su,
-                    },
-                )
-            }
-        }
+    let u = words::son(sv, side) as usize;
+    let su = take(t, c, u, link.holder, v, 0)?;
+    if has_third(kind) {
+        return aim_w(t, c, r, link, v, sv, u, su);
     }
+    judge(
+        r,
+        Nodes {
+            link,
+            v,
+            u,
+            w: u,
+            sv,
+            su,
+            sw: su,
+        },
+    )
 }
 
-pub fn aim_v(t: &[u32], c: usize, r: Rule, link: Link) -> Firing
+pub fn aim_v(t: &[u32], c: usize, r: Rule, link: Link) -> Result<(Rule, Nodes), Refusal>
     requires { LinkReached t.now c link }
     ensures { Aimed c (aim_v t.now c r link) result }
 {
     let v = words::link_at(t, link);
-    match take(t, c, v, link.holder, 0, 0) {
-        Taken::Not(why) => Firing::Refuse(why),
-        Taken::Got(sv) => aim_u(t, c, r, link, v, sv),
-    }
+    let sv = take(t, c, v, link.holder, 0, 0)?;
+    aim_u(t, c, r, link, v, sv)
 }
 
 // The firing of a rule at a link: the holder first, then v, u and w.
-pub fn aim(t: &[u32], c: usize, r: Rule, link: Link) -> Firing
+pub fn aim(t: &[u32], c: usize, r: Rule, link: Link) -> Result<(Rule, Nodes), Refusal>
     requires { Ready t.now c × (link.holder ≤ c) }
     ensures { Aimed c (aim t.now c r link) result }
 {
@@ -169,11 +161,11 @@ pub fn aim(t: &[u32], c: usize, r: Rule, link: Link) -> Firing
     }
     let s = words::slot_at(t, holder);
     if s.state == State::FREE {
-        return Firing::Refuse(Refusal::GuardFails);
+        return Err(Refusal::GuardFails);
     }
     if gate::fit(c, s) {
         aim_v(t, c, r, link)
     } else {
-        Firing::Refuse(Refusal::Damaged)
+        Err(Refusal::Damaged)
     }
 }

@@ -1,34 +1,18 @@
 -- One step down a hanging tree, for every walk of it; and the tree at the root. Assumes nothing.
-use Prim.Native.Nat.{ℕ, suc, ◌+◌, ◌-◌, ◌≤◌, ◌<◌}
+use Prim.Native.Nat.{ℕ, suc, ◌+◌, ◌-◌, ◌≤◌}
 use mathlib.Core.Path.{◌≡◌, refl, sym, ap, ◌∙◌}
-use mathlib.Core.Bool.{true}
 use mathlib.Core.List.{List}
 use native.Mathlib.Omega.{arith}
-use Rattle.scope.specs.Numbers.{most_slots}
 use Rattle.scope.specs.Table.{word, root_word, count_word, slot_at, InTable}
-use Rattle.scope.specs.Fit.{fit_slot}
 use Rattle.scope.specs.Tree.{Tree, leaf, node, size}
 use Rattle.scope.specs.Sound.{Spells, batch_at, tree_in}
 use Rattle.spelling.proofs.Laws.{in_table, fit-left, fit-right, header-root, header-count}
 use Rattle.spelling.specs.Whole.{Whole}
 use Rattle.spelling.proofs.Spell.{unique, tree-in}
 use Rattle.fork.specs.declared.Fork.{Fork}
-use Rattle.fork.specs.Hangs.{FewHang, Says, fork_at}
+use Rattle.fork.specs.Hangs.{FewHang, Says, Forked, fork_at}
 
--- the slot at link x with what hangs below it
-pub record Forked (t : List ℕ) (more x : ℕ) (f : Fork) : Type 0 where
-  pub some : 1 ≤ more
-  pub most : more ≤ most_slots
-  pub c : ℕ
-  pub slot : f.slot ≡ slot_at t x
-  pub fit : fit_slot c f.slot ≡ true
-  pub on_left : FewHang t (more - 1) f.left
-  pub on_right : FewHang t (more - 1) f.right
-  pub few : size on_left.tree + size on_right.tree < more
-  pub whole : (c : ℕ) (T : Tree) → Spells t c x T
-      → T ≡ node (batch_at t x) f.slot.lefth f.slot.righth on_left.tree on_right.tree
-
-module _ {t : List ℕ} {more x : ℕ} (h : FewHang t more x) (ne : x ≡ 0 → ⊥) where
+module _ {t : List ℕ} {more x : ℕ} (h : FewHang t more x) (there : 1 ≤ x) where
   -- the slot lies in the table
   pub in_reach : InTable t x
   in_reach = in_table x h.sized (omega arith) h.link
@@ -48,7 +32,7 @@ module _ {t : List ℕ} {more x : ℕ} (h : FewHang t more x) (ne : x ≡ 0 → 
 
   forked-at : (T : Tree) → Spells t h.slots x T → size T ≤ more → Forked t more x (fork_at t x)
   unfolding Spells size
-  forked-at leaf p few = absurd (ne p)
+  forked-at leaf p few = absurd (omega (arith, there))
   forked-at (node d a b l r) p few =
       record {
         some = omega arith;

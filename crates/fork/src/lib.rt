@@ -6,6 +6,9 @@ ghost use Rattle.std.specs.Prelude.{◌≡◌};
 ghost use Rattle.scope.specs.Table.{InTable};
 ghost use Rattle.fork.specs.Hangs.{fork_at};
 
+pub mod fold;
+
+pub use fold::{Fold, fold_at, fold_in, fold_under};
 use scope::Slot;
 
 #[derive(Clone, Copy)]
@@ -20,7 +23,9 @@ pub fn fork_at(t: &[u32], x: usize) -> Fork
     ensures { result ≡ fork_at t.now x }
 {
     let slot = words::slot_at(t, x);
-    let left = words::wide(slot.left);
-    let right = words::wide(slot.right);
-    Fork { slot, left, right }
+    Fork {
+        slot,
+        left: slot.left as usize,
+        right: slot.right as usize,
+    }
 }

@@ -1,42 +1,41 @@
 // How a call begins and how it answers.
-ghost use Rattle.std.specs.Prelude.{◌≡◌};
+ghost use Rattle.std.specs.Prelude.{◌≡◌, ok_or};
 ghost use Rattle.scope.specs.Table.{slots_in, word, change_word};
 ghost use Rattle.scope.specs.Fit.{header_ok};
-ghost use Rattle.scope.specs.Answers.{code_of, refusal, absence, accepted, gate};
+ghost use Rattle.scope.specs.Answers.{code_of, refusal, absence, denial, accepted, gate};
+ghost use Rattle.scope.specs.declared.answer.Refusal.TheVariants.{WrongLength};
 ghost use Rattle.spelling.specs.Ready.{Headed};
+ghost use Rattle.gate.specs.Opens.{Opens};
 
+use crate::table::Table;
 use crate::tests::header_ok;
-use scope::{Answer, Gate, Head, Passed, Refusal, Slot, Slots, SlotsIs};
+use scope::{Answer, Denial, Head, Passed, Refusal, Slot, Slots};
 
 // The slots of a table of so many words.
-pub fn capacity(n: usize) -> SlotsIs
-    ensures { result ≡ slots_in n }
+#[tactic(auto, unfolding(scope::specs::Table::slots_in))]
+pub fn capacity(n: usize) -> Result<Slots, Refusal>
+    ensures { result ≡ ok_or (slots_in n) WrongLength }
 {
     if n % Slot::WORDS == Head::WORDS {
-        Slots::of(n / Slot::WORDS)
+        Slots::try_from(n / Slot::WORDS)
     } else {
-        SlotsIs::Outside
+        Err(Refusal::WrongLength)
     }
 }
 
 // Tests 1 to 3: the length, the arguments, the header.
-pub fn enter(t: &[u32], in_range: bool) -> Gate
-    ensures { result ≡ gate t.now in_range (λ c. header_ok c t.now) }
+#[tactic(auto, unfolding(scope::specs::Answers::gate), using(spelling::proofs::Laws::slots_sized))]
+pub fn enter(t: &[u32], in_range: bool) -> Result<Table<'_>, Refusal>
+    ensures { Opens t.now (gate t.now in_range (λ c. header_ok c t.now)) result }
 {
-    match capacity(t.len()) {
-        SlotsIs::Outside => Gate::Shut(Refusal::WrongLength),
-        SlotsIs::Within(s) => {
-            let c = s.count;
-            if in_range {
-                if header_ok(c, t) {
-                    Gate::Open(c)
-                } else {
-                    Gate::Shut(Refusal::Damaged)
-                }
-            } else {
-                Gate::Shut(Refusal::OutOfRange)
-            }
-        }
+    let slots = capacity(t.len())?.count;
+    if !in_range {
+        return Err(Refusal::OutOfRange);
+    }
+    if header_ok(slots, t) {
+        Ok(Table { words: t, slots })
+    } else {
+        Err(Refusal::Damaged)
     }
 }
 
@@ -44,18 +43,7 @@ pub fn enter(t: &[u32], in_range: bool) -> Gate
 pub fn code(why: Refusal) -> u64
     ensures { result ≡ code_of why }
 {
-    match why {
-        Refusal::WrongLength => 1,
-        Refusal::OutOfRange => 2,
-        Refusal::Damaged => 3,
-        Refusal::KeyPresent => 4,
-        Refusal::KeyAbsent => 5,
-        Refusal::NoFreeSlot => 6,
-        Refusal::LastChange => 7,
-        Refusal::GuardFails => 8,
-        Refusal::TooHigh => 9,
-        Refusal::Unreadable => 10,
-    }
+    why as u64
 }
 
 pub fn refuse(why: Refusal) -> Answer
@@ -77,9 +65,19 @@ pub fn absent(passed: Passed) -> Answer
     Answer {
         code: code(Refusal::KeyAbsent),
         change: 0,
-        value: words::long(passed.below),
-        more: words::long(passed.above),
+        value: u64::from(passed.below),
+        more: u64::from(passed.above),
         kind: 0,
+    }
+}
+
+// The answer to an amend or a drop that is denied.
+pub fn deny(why: Denial) -> Answer
+    ensures { result ≡ denial why }
+{
+    match why {
+        Denial::Refused(refusal) => refuse(refusal),
+        Denial::Absent(passed) => absent(passed),
     }
 }
 
@@ -100,5 +98,5 @@ pub fn told(t: &[u32], value: u64) -> Answer
     requires { Headed t.now }
     ensures { result ≡ accepted (word t.now change_word) value 0 0 }
 {
-    accept(words::long(words::change(t)), value, 0, 0)
+    accept(u64::from(words::change(t)), value, 0, 0)
 }

@@ -14,5 +14,5 @@ pub fn next_change(t: &mut [u32], before: u32, slot: usize) -> Answer
 {
     let change = before + 1;
     words::put_change(t, change);
-    accept(words::long(change), words::size(slot), 0, 0)
+    accept(u64::from(change), slot as u64, 0, 0)
 }

@@ -106,8 +106,8 @@ pub fn header_ok(c: usize, t: &[u32]) -> bool
     ensures { result ≡ header_ok c t.now }
 {
     let extra = spare(c);
-    let root = words::root_word(t) as u64 + extra;
-    let count = words::records_word(t) as u64 + extra;
+    let root = words::root(t) as u64 + extra;
+    let count = words::records(t) as u64 + extra;
     let zero = words::zero(t) as u64 * (Height::MOST as u64 + 1);
     (root | (count | zero)) <= Height::MOST as u64
 }

@@ -14,7 +14,8 @@ use Rattle.spelling.specs.Whole.{Whole}
 use Rattle.spelling.proofs.Laws.{header-count}
 use Rattle.spelling.proofs.Spell.{tree-in}
 use Rattle.fork.specs.declared.Fork.{Fork}
-use Rattle.fork.proofs.Down.{Forked, sizes, said_at, says-leaf, says-fork, root-hangs, said}
+use Rattle.fork.specs.Hangs.{Forked}
+use Rattle.fork.proofs.Down.{sizes, said_at, says-leaf, says-fork, root-hangs, said}
 use Rattle.fork.proofs.Order.{order-node}
 use Rattle.in_order.specs.Listed.{Roomy, Written, InOrder}
 

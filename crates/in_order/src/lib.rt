@@ -5,7 +5,8 @@ ghost use Rattle.std.specs.Prelude.{◌≤◌, length};
 ghost use Rattle.spelling.specs.Whole.{Whole};
 ghost use Rattle.in_order.specs.Listed.{Roomy, Written, InOrder};
 
-// Lists slot x and what hangs below it, from the place `at` on: the place after them.
+// Lists slot x and what hangs below it, from the place `at` on: the place after them. No fold (`fork::Fold`): it writes
+// in a lent list, and hands its place on from the left side to the right.
 #[cycle(order_at_order_under)]
 pub fn order_at(t: &[u32], more: usize, x: usize, list: &mut [usize], at: usize) -> usize
     requires { (1 ≤ x) × Roomy t.now more x list.old at }
@@ -36,8 +37,8 @@ pub fn order_in(t: &[u32], c: usize, list: &mut [usize]) -> usize
     requires { Whole t.now c × (c ≤ length list.old) }
     ensures { InOrder t.now c list.new result }
 {
-    let n = words::records(t);
-    let root = words::root(t);
+    let n = words::records(t) as usize;
+    let root = words::root(t) as usize;
     if root == 0 {
         0
     } else {

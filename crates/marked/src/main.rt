@@ -14,31 +14,20 @@ const FOUR: usize = Head::WORDS + 4 * Slot::WORDS;
 // Where the left register of slot 2 stands.
 const SECOND_LEFTH: usize = Head::WORDS + Slot::WORDS + Slot::LEFTH;
 
-fn number(rt: &impl Print, n: u64) -> io::Result<()> {
-    print!(rt; "{n} ")
-}
-
-fn end_line(rt: &impl Print) -> io::Result<()> {
-    println!(rt)
-}
-
+// The five numbers of an answer.
 fn say(rt: &impl Print, a: Answer) -> io::Result<()> {
-    number(rt, a.code)?;
-    number(rt, a.change)?;
-    number(rt, a.value)?;
-    number(rt, a.more)?;
-    number(rt, a.kind)?;
-    end_line(rt)
+    println!(rt;
+        "{} {} {} {} {} ",
+        a.code, a.change, a.value, a.more, a.kind
+    )
 }
 
 // All words of a table.
 fn show(rt: &impl Print, t: &[u32]) -> io::Result<()> {
-    let mut i = 0;
-    while i < t.len() {
-        number(rt, words::long(t[i]))?;
-        i += 1;
+    for word in t {
+        print!(rt; "{word} ")?;
     }
-    end_line(rt)
+    println!(rt)
 }
 
 // Posts one piece poured at a stamp.
@@ -54,10 +43,9 @@ fn fire_once(rt: &impl Print, t: &mut [u32]) -> io::Result<()> {
 
 // Four firings, with the worth before and after each.
 fn fire_four(rt: &impl Print, t: &mut [u32]) -> io::Result<()> {
-    fire_once(rt, t)?;
-    fire_once(rt, t)?;
-    fire_once(rt, t)?;
-    fire_once(rt, t)?;
+    for _ in 0..4 {
+        fire_once(rt, t)?;
+    }
     say(rt, index::worth(t))
 }
 

@@ -1,15 +1,10 @@
 -- Past a word of marks at once: a word with none on, and one with all on. Assumes nothing.
-use Prim.Native.Nat.{ℕ, zero, suc, ◌+◌, ◌*◌, ◌/◌, ◌%◌, ◌^◌, ◌<◌}
-use mathlib.Core.Path.{◌≡◌, refl, ap, ◌∙◌}
-use mathlib.Core.Bool.{Bool, true, ◌&&◌}
+use Prim.Native.Nat.{ℕ, ◌+◌, ◌*◌, ◌/◌, ◌%◌, ◌^◌, ◌<◌}
+use mathlib.Core.Path.{◌≡◌, ap, ◌∙◌}
 use mathlib.Core.List.{List}
-use native.Mathlib.Nat.{zero-div}
-use native.Mathlib.Decide.{dec_lt}
 use native.Mathlib.Omega.{arith}
 use lib.ListN.{get_or}
-use lib.Dec.{eqb}
-use borrow.Author.Tests.{eqb-true}
-use Rattle.scope.proofs.Bools.{and_l, and_r}
+use Rattle.std.proofs.lemmas.Nat.Bits.{bit_at_ones}
 use Rattle.marks.specs.Marks.{bit_at, Past}
 
 -- the slots of one word have its bits
@@ -27,23 +22,6 @@ past_word m k w at e h z = record {
 pub past_one : (m : List ℕ) (k w : ℕ) → k < 4096 → Past m k w (k + 1)
 past_one m k w h = record { further = omega arith; most = omega arith; bits = λ j p q. absurd (omega arith) }
 
--- the bits of 0 are off
-pub none-on : (i : ℕ) → 0 / 2 ^ i % 2 ≡ 0
-none-on i = ap (λ (x : ℕ). x % 2) (zero-div (2 ^ i))
-
--- those of the largest word are on
-all_on : ℕ → Bool
-all_on zero = true
-all_on (suc n) = eqb (18446744073709551615 / 2 ^ n % 2) 1 && all_on n
-
-below_on : (n : ℕ) → all_on n ≡ true → (b : ℕ) → b < n → 18446744073709551615 / 2 ^ b % 2 ≡ 1
-unfolding all_on
-below_on zero e b h = absurd (omega arith)
-below_on (suc n) e b h =
-    elim (dec_lt b n) [
-      | yes i ↦ below_on n (and_r (eqb (18446744073709551615 / 2 ^ n % 2) 1) _ e) b i
-      | no i ↦ let top : b ≡ n = omega arith in rw top (eqb-true _ 1 (and_l _ _ e))
-    ]
-
+-- all bits of the largest word are on
 pub all-on : (b : ℕ) → b < 64 → 18446744073709551615 / 2 ^ b % 2 ≡ 1
-all-on = below_on 64 (unfold all_on in refl)
+all-on = bit_at_ones 64

@@ -7,7 +7,7 @@ ghost use Rattle.panel.specs.Five.{five_of, Gives};
 
 use scope::Answer;
 
-// The five numbers of an answer in their order.
+// The five numbers of an answer in the order of the C interface.
 pub fn five(a: Answer) -> [u64; 5]
     ensures { result ≡ five_of a }
 {

@@ -14,19 +14,19 @@ use Rattle.scope.specs.Post.{hang_at}
 use Rattle.scope.specs.declared.slot.Slot.{Slot}
 use Rattle.scope.specs.declared.side.Link.{Link}
 use Rattle.scope.specs.declared.answer.Refusal.TheVariants.{Damaged, NoFreeSlot, LastChange}
-use Rattle.scope.specs.declared.outcome.Posting.TheVariants.{Refuse, Hang}
 use Rattle.spelling.specs.Ready.{Ready}
 use Rattle.post.specs.Planned.{PostPlanned}
+use Rattle.std.specs.Prelude.{Ok, Err}
 
 module _ (t : List ℕ) (c : ℕ) (link : Link) (k : ℕ) where
-  pub hang-none : k ≡ 0 → PostPlanned t (hang_at t c link k) (Refuse NoFreeSlot)
+  pub hang-none : k ≡ 0 → PostPlanned t (hang_at t c link k) (Err NoFreeSlot)
   unfolding hang_at
   hang-none z = record { is = simp (eq-eqb _ _ z); can = tt }
 
   -- slot k was read as s and tested, and n records are counted
   module _ {s : Slot} {blank : Bool} {n : ℕ} (there : k ≡ 0 → ⊥) (read : s ≡ slot_at t k)
       (tested : blank ≡ blank_slot s) (counted : n ≡ word t count_word) where
-    pub hang-damaged : (blank && ltb n c) ≡ false → PostPlanned t (hang_at t c link k) (Refuse Damaged)
+    pub hang-damaged : (blank && ltb n c) ≡ false → PostPlanned t (hang_at t c link k) (Err Damaged)
     unfolding hang_at
     hang-damaged bad = record {
       is = simp (ne_eqb k 0 there, sym read, sym tested, sym counted, bad);
@@ -35,7 +35,7 @@ module _ (t : List ℕ) (c : ℕ) (link : Link) (k : ℕ) where
 
     -- v is the change number
     module _ {v : ℕ} (good : (blank && ltb n c) ≡ true) (numbered : v ≡ word t change_word) where
-      pub hang-last : last_change ≤ v → PostPlanned t (hang_at t c link k) (Refuse LastChange)
+      pub hang-last : last_change ≤ v → PostPlanned t (hang_at t c link k) (Err LastChange)
       unfolding hang_at
       hang-last le = record {
         is = simp (ne_eqb k 0 there, sym read, sym tested, sym counted, good, sym numbered, le-ltb _ _ le);
@@ -43,7 +43,7 @@ module _ (t : List ℕ) (c : ℕ) (link : Link) (k : ℕ) where
       }
 
       pub hang-here : Ready t c × (link.holder ≤ c) × (k ≤ c) → v < last_change
-          → PostPlanned t (hang_at t c link k) (Hang k link)
+          → PostPlanned t (hang_at t c link k) (Ok (record { slot = k; link = link }))
       unfolding hang_at
       hang-here p lt = record {
         is = simp (ne_eqb k 0 there, sym read, sym tested, sym counted, good, sym numbered, lt-ltb _ _ lt);

@@ -8,13 +8,13 @@ use Rattle.scope.specs.Post.{hung, posted}
 use Rattle.scope.specs.declared.slot.Slot.{Slot}
 use Rattle.scope.specs.declared.side.Link.{Link}
 use Rattle.scope.specs.declared.answer.Answer.{Answer}
-use Rattle.scope.specs.declared.outcome.Posting.TheVariants.{Hang}
 use Rattle.gate.specs.Ends.{Does, settled}
+use Rattle.std.specs.Prelude.{Ok}
 
 -- count and change were read from t, x is t with the leaf, y is x with its link
 pub hung-by : (t : List ℕ) (k : ℕ) (link : Link) (new : Slot) {x y u : List ℕ} {count change : ℕ} {a : Answer}
     → count ≡ word t count_word → change ≡ word t change_word
     → x ≡ with_slot t k new → y ≡ set x (link_at link) k
-    → Does (settled y (count + 1) change k) a u → Does (posted t new (Hang k link)) a u
+    → Does (settled y (count + 1) change k) a u → Does (posted t new (Ok (record { slot = k; link = link }))) a u
 unfolding posted hung
 hung-by t k link new n v p q done = simp (sym p, sym q, sym n, sym v) done

@@ -4,54 +4,53 @@
 ghost use Rattle.std.specs.Prelude.{◌≡◌, ◌≤◌};
 ghost use Rattle.scope.specs.Post.{hang_at, posting_at, post_plan, leaf_slot, posted};
 ghost use Rattle.scope.specs.Calls.{Post, Promise};
-ghost use Rattle.scope.specs.declared.outcome.Posting.TheVariants.{Hang};
-ghost use Rattle.spelling.specs.Ready.{Ready};
 ghost use Rattle.walk.specs.Walked.{WalkInside};
 ghost use Rattle.gate.specs.Ends.{Does};
 ghost use Rattle.post.specs.Planned.{Hangable};
 ghost use Rattle.post.specs.Planned.{PostPlanned};
 
-use scope::{Answer, Gate, Link, Posting, Refusal, Slot, Walk};
+use gate::Table;
+use scope::{Answer, Link, Posting, Refusal, Slot, Walk};
 
 // Whether the lowest free slot k can be filled: test 6, and what follows it.
-pub fn hang_at(t: &[u32], c: usize, link: Link, k: usize) -> Posting
-    requires { Ready t.now c × (link.holder ≤ c) × (k ≤ c) }
-    ensures { PostPlanned t.now (hang_at t.now c link k) result }
+pub fn hang_at(table: Table, link: Link, k: usize) -> Result<Posting, Refusal>
+    requires { (link.holder ≤ table.slots) × (k ≤ table.slots) }
+    ensures { PostPlanned table.entry.words.now (hang_at table.entry.words.now table.entry.slots link k) result }
 {
+    let t = table.words;
     if k == 0 {
-        return Posting::Refuse(Refusal::NoFreeSlot);
+        return Err(Refusal::NoFreeSlot);
     }
-    if gate::blank(words::slot_at(t, k)) & (words::records(t) < c) {
+    if gate::blank(words::slot_at(t, k)) & ((words::records(t) as usize) < table.slots) {
         if words::change(t) < Answer::LAST_CHANGE {
-            Posting::Hang { slot: k, link }
+            Ok(Posting { slot: k, link })
         } else {
-            Posting::Refuse(Refusal::LastChange)
+            Err(Refusal::LastChange)
         }
     } else {
-        Posting::Refuse(Refusal::Damaged)
+        Err(Refusal::Damaged)
     }
 }
 
 // Test 4 comes before them.
-pub fn posting_at(t: &[u32], c: usize, w: Walk) -> Posting
-    requires { Ready t.now c × WalkInside c w }
-    ensures { PostPlanned t.now (posting_at t.now c w) result }
+pub fn posting_at(table: Table, w: Walk) -> Result<Posting, Refusal>
+    requires { WalkInside table.slots w }
+    ensures { PostPlanned table.entry.words.now (posting_at table.entry.words.now table.entry.slots w) result }
 {
     match w {
-        Walk::Damage => Posting::Refuse(Refusal::Damaged),
-        Walk::Hit { .. } => Posting::Refuse(Refusal::KeyPresent),
-        Walk::Miss { link, .. } => hang_at(t, c, link, words::free_slot(t, c)),
+        Walk::Damage => Err(Refusal::Damaged),
+        Walk::Hit { .. } => Err(Refusal::KeyPresent),
+        Walk::Miss { link, .. } => hang_at(table, link, words::free_slot(table.words, table.slots)),
     }
 }
 
 // What a post is to do: read and tested before anything is written.
-pub fn plan_post(t: &[u32], key: u32, pieces: u32, state: u32) -> Posting
+#[tactic(auto, unfolding(scope::specs::Post::post_plan), using(scope::proofs::Errs::handed_on))]
+pub fn plan_post(t: &[u32], key: u32, pieces: u32, state: u32) -> Result<Posting, Refusal>
     ensures { PostPlanned t.now (post_plan t.now key pieces state) result }
 {
-    match gate::enter(t, gate::record_ok(key, pieces, state)) {
-        Gate::Shut(why) => Posting::Refuse(why),
-        Gate::Open(c) => posting_at(t, c, walk::search(t, c, key)),
-    }
+    let table = gate::enter(t, gate::record_ok(key, pieces, state))?;
+    posting_at(table, walk::search(table, key))
 }
 
 // A record with no sons.
@@ -64,12 +63,12 @@ pub fn leaf(key: u32, pieces: u32, state: u32) -> Slot
 // The leaf in slot k, and k in its link.
 pub fn hang(t: &mut [u32], k: usize, link: Link, new: Slot) -> Answer
     requires { Hangable t.old k link }
-    ensures { Does (posted t.old new (Hang k link)) result t.new }
+    ensures { Does (posted t.old new (Ok (record { slot = k; link = link }))) result t.new }
 {
-    let count = words::records(t);
+    let count = words::records(t) as usize;
     let change = words::change(t);
     words::put_slot(t, k, new);
-    words::put_link(t, link, k);
+    words::put_link(t, link, k as u32);
     words::put_records(t, count + 1);
     gate::next_change(t, change, k)
 }
@@ -79,7 +78,7 @@ pub fn post(t: &mut [u32], key: u32, pieces: u32, state: u32) -> Answer
     ensures { Promise (Post key pieces state) t.old result t.new }
 {
     match plan_post(t, key, pieces, state) {
-        Posting::Refuse(why) => gate::refuse(why),
-        Posting::Hang { slot, link } => hang(t, slot, link, leaf(key, pieces, state)),
+        Err(why) => gate::refuse(why),
+        Ok(Posting { slot, link }) => hang(t, slot, link, leaf(key, pieces, state)),
     }
 }

@@ -1,20 +1,22 @@
--- A rank as one number, and what a walk for it says. Assumes nothing: these are statements.
-use Rattle.std.specs.Prelude.{ℕ, ◌+◌, ◌-◌, ◌≤◌, cond, List, ltb}
-use Rattle.scope.specs.Numbers.{most_slots}
+-- What a walk for a rank says. Assumes nothing: these are statements.
+use Rattle.std.specs.Prelude.{ℕ, ◌-◌, ◌≤◌, List}
+use Rattle.std.specs.declared.ops.ControlFlow.{ControlFlow}
+use Rattle.std.specs.declared.ops.ControlFlow.TheVariants.{Continue, Break}
 use Rattle.scope.specs.Sums.{rank_of}
-use Rattle.scope.specs.declared.outcome.Rank.{Rank}
-use Rattle.scope.specs.declared.outcome.Rank.TheVariants.{At, Past}
 use Rattle.fork.specs.Hangs.{Says}
+use Rattle.std.specs.Prelude.{Result, Ok, Err}
 
--- rank 1 as a number, above every slot
-abbrev pub first_rank : ℕ
-first_rank = most_slots + 1
+-- a slot, or how many come before the rank that is still wanted
+abbrev pub found_rank : ℕ → ControlFlow ℕ ℕ → Result ℕ ℕ
+found_rank wanted (Break k) = Ok k
+found_rank wanted (Continue n) = Err (wanted - n)
 
--- what such a number says: a slot, or how many come before the rank that is still wanted
-unfoldable pub rank_said : ℕ → ℕ → Rank
-rank_said wanted n = cond (ltb n first_rank) (At n) (Past (wanted - n))
+-- no more is wanted than was
+abbrev pub AtMost : ℕ → ControlFlow ℕ ℕ → Type 0
+AtMost wanted (Break k) = Unit {0}
+AtMost wanted (Continue n) = n ≤ wanted
 
--- n is what a walk from link x says
-pub record Seeks (t : List ℕ) (x wanted n : ℕ) : Type 0 where
-  pub most : n ≤ wanted
-  pub says : Says t x (rank_of (wanted - most_slots)) (rank_said wanted n)
+-- what a walk from link x found
+pub record Seeks (t : List ℕ) (x wanted : ℕ) (found : ControlFlow ℕ ℕ) : Type 0 where
+  pub most : AtMost wanted found
+  pub says : Says t x (rank_of wanted) (found_rank wanted found)

@@ -9,5 +9,6 @@ pub mod Misses
 pub mod Bites
 pub mod Computed
 pub mod Teeth
+pub mod Errs
 pub mod Firings
 pub mod Determined

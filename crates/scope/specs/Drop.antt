@@ -1,64 +1,60 @@
 -- drop: a record is taken out, in the order of writing that document 01 gives ("Calls and what they answer"; of a miss document 02, order 1).
-use Rattle.std.specs.Prelude.{ℕ, zero, suc, ◌+◌, ◌-◌, cond, not, ◌||◌, List, set, ltb, eqb}
+use Rattle.std.specs.Prelude.{ℕ, zero, suc, ◌+◌, ◌-◌, cond, not, ◌||◌, List, set, ltb, eqb, Option, Some, None, Result, Ok, Err}
 use Rattle.scope.specs.Numbers.{last_change}
 use Rattle.scope.specs.Table.{word, count_word, change_word, slot_at, with_record, with_slot, link_at, register_at}
 use Rattle.scope.specs.Fit.{fit_slot, header_ok}
 use Rattle.scope.specs.Table.{zero_slot}
-use Rattle.scope.specs.Answers.{Done, refused, missed, accepted, gate}
+use Rattle.scope.specs.Answers.{Done, denied, accepted, gate, or_denied}
 use Rattle.scope.specs.Walk.{walk_of}
 use Rattle.scope.specs.declared.slot.Slot.{Slot}
 use Rattle.scope.specs.declared.side.Side.TheVariants.{Left, Right}
 use Rattle.scope.specs.declared.side.Link.{Link}
 use Rattle.scope.specs.declared.answer.Answer.{Answer}
+use Rattle.scope.specs.declared.answer.Refusal.{Refusal}
 use Rattle.scope.specs.declared.answer.Refusal.TheVariants.{Damaged, LastChange}
-use Rattle.scope.specs.declared.answer.Gate.{Gate}
-use Rattle.scope.specs.declared.answer.Gate.TheVariants.{Shut, Open}
+use Rattle.scope.specs.declared.answer.Denial.{Denial}
+use Rattle.scope.specs.declared.answer.Denial.TheVariants.{Refused, Absent}
 use Rattle.scope.specs.declared.outcome.Walk.{Walk}
 use Rattle.scope.specs.declared.outcome.Walk.TheVariants.{Hit, Miss, Damage}
 use Rattle.scope.specs.declared.outcome.Leftmost.{Leftmost}
-use Rattle.scope.specs.declared.outcome.Leftmost.TheVariants as leftmost
 use Rattle.scope.specs.declared.outcome.Dropping.{Dropping}
-use Rattle.scope.specs.declared.outcome.Dropping.TheVariants.{Refuse, Absent, Lift, Replace}
+use Rattle.scope.specs.declared.outcome.Dropping.TheVariants.{Lift, Replace}
 
 -- the leftmost slot below slot k, which hangs at `link`; `more` slots may still be visited
-unfoldable pub leftmost_from : ℕ → List ℕ → ℕ → ℕ → Link → Leftmost
-leftmost_from zero t c k link = leftmost.Broken
+unfoldable pub leftmost_from : ℕ → List ℕ → ℕ → ℕ → Link → Option Leftmost
+leftmost_from zero t c k link = None
 leftmost_from (suc more) t c k link =
     cond (fit_slot c (slot_at t k))
-    (cond (eqb (slot_at t k).left 0) (leftmost.Is k link)
+    (cond (eqb (slot_at t k).left 0) (Some (record { slot = k; link = link }))
     (leftmost_from more t c (slot_at t k).left (record { holder = k; side = Left })))
-    leftmost.Broken
+    None
 
 -- tests 3 (a record is found where none is counted) and 7, before what is to be done
-unfoldable pub if_may : List ℕ → Dropping → Dropping
+unfoldable pub if_may : List ℕ → Dropping → Result Dropping Denial
 if_may t plan =
-    cond (eqb (word t count_word) 0) (Refuse Damaged)
-    (cond (ltb (word t change_word) last_change) plan (Refuse LastChange))
+    cond (eqb (word t count_word) 0) (Err (Refused Damaged))
+    (cond (ltb (word t change_word) last_change) (Ok plan) (Err (Refused LastChange)))
 
-abbrev pub replacing : List ℕ → ℕ → Leftmost → Dropping
-replacing t slot leftmost.Broken = Refuse Damaged
-replacing t slot (leftmost.Is least link) = if_may t (Replace slot least link)
+abbrev pub replacing : List ℕ → ℕ → Option Leftmost → Result Dropping Denial
+replacing t slot None = Err (Refused Damaged)
+replacing t slot (Some m) = if_may t (Replace slot m.slot m.link)
 
 -- with at most one son the record is lifted out; with two the walk goes on to the leftmost on its right
-unfoldable pub drop_at : List ℕ → ℕ → ℕ → Link → ℕ → Dropping
+unfoldable pub drop_at : List ℕ → ℕ → ℕ → Link → ℕ → Result Dropping Denial
 drop_at t c slot link seen =
     cond (eqb (slot_at t slot).left 0) (if_may t (Lift slot link (slot_at t slot).right))
     (cond (eqb (slot_at t slot).right 0) (if_may t (Lift slot link (slot_at t slot).left))
     (replacing t slot
     (leftmost_from (c - seen) t c (slot_at t slot).right (record { holder = slot; side = Right }))))
 
-unfoldable pub dropping_at : List ℕ → ℕ → Walk → Dropping
+unfoldable pub dropping_at : List ℕ → ℕ → Walk → Result Dropping Denial
 dropping_at t c (Hit slot link seen) = drop_at t c slot link seen
-dropping_at t c (Miss passed link seen) = Absent passed
-dropping_at t c Damage = Refuse Damaged
+dropping_at t c (Miss passed link seen) = Err (Absent passed)
+dropping_at t c Damage = Err (Refused Damaged)
 
-abbrev pub dropping : Gate → (ℕ → Dropping) → Dropping
-dropping (Shut why) f = Refuse why
-dropping (Open c) f = f c
-
-unfoldable pub drop_plan : List ℕ → ℕ → Dropping
+unfoldable pub drop_plan : List ℕ → ℕ → Result Dropping Denial
 drop_plan t key =
-    dropping (gate t (not (eqb key 0)) (λ c. header_ok c t)) (λ c. dropping_at t c (walk_of t c key))
+    or_denied (gate t (not (eqb key 0)) (λ c. header_ok c t)) (λ c. dropping_at t c (walk_of t c key))
 
 -- a son, or 0, at a link
 unfoldable pub relinked : List ℕ → Link → ℕ → List ℕ
@@ -94,12 +90,11 @@ replaced t slot least link =
 abbrev pub counted : List ℕ → List ℕ → List ℕ
 counted t x = set (set x count_word (word t count_word - 1)) change_word (word t change_word + 1)
 
-unfoldable pub dropped : List ℕ → Dropping → Done
-dropped t (Refuse why) = refused t why
-dropped t (Absent passed) = missed t passed
-dropped t (Lift slot link son) =
+unfoldable pub dropped : List ℕ → Result Dropping Denial → Done
+dropped t (Err why) = denied t why
+dropped t (Ok (Lift slot link son)) =
     record { answer = accepted (word t change_word + 1) slot 0 0; words = counted t (lifted t slot link son) }
-dropped t (Replace slot least link) =
+dropped t (Ok (Replace slot least link)) =
     record { answer = accepted (word t change_word + 1) least 0 0; words = counted t (replaced t slot least link) }
 
 unfoldable pub drop_of : List ℕ → ℕ → Done

@@ -1,20 +1,19 @@
 -- start and find (document 01, "Calls and what they answer"; of a miss document 02, order 1).
-use Rattle.std.specs.Prelude.{ℕ, true, not, List, length, replicate, eqb}
+use Rattle.std.specs.Prelude.{ℕ, true, not, List, length, replicate, eqb, Result, Ok, Err}
 use Rattle.scope.specs.Table.{word, change_word, slot_at}
 use Rattle.scope.specs.Fit.{header_ok}
 use Rattle.scope.specs.Answers.{Done, refused, accepted, refusal, absence, gate, answering}
 use Rattle.scope.specs.Walk.{walk_of}
 use Rattle.scope.specs.declared.answer.Answer.{Answer}
+use Rattle.scope.specs.declared.answer.Refusal.{Refusal}
 use Rattle.scope.specs.declared.answer.Refusal.TheVariants.{Damaged}
-use Rattle.scope.specs.declared.answer.Gate.{Gate}
-use Rattle.scope.specs.declared.answer.Gate.TheVariants.{Shut, Open}
 use Rattle.scope.specs.declared.outcome.Walk.{Walk}
 use Rattle.scope.specs.declared.outcome.Walk.TheVariants.{Hit, Miss, Damage}
 
 -- start looks at nothing but the length, and zeroes every word
-abbrev pub started : List ℕ → Gate → Done
-started t (Shut why) = refused t why
-started t (Open c) = record { answer = accepted 0 0 0 0; words = replicate (length t) 0 }
+abbrev pub started : List ℕ → Result ℕ Refusal → Done
+started t (Err why) = refused t why
+started t (Ok c) = record { answer = accepted 0 0 0 0; words = replicate (length t) 0 }
 
 unfoldable pub start_of : List ℕ → Done
 start_of t = started t (gate t true (λ c. true))

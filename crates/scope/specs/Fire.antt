@@ -1,44 +1,31 @@
 -- fire: one rule at one link, with its refusals in order (document 01, "The eight rules").
-use Rattle.std.specs.Prelude.{ℕ, Bool, true, false, cond, not, ◌&&◌, List, length, leb, eqb}
+use Rattle.std.specs.Prelude.{ℕ, Bool, true, false, cond, not, ◌&&◌, List, length, leb, eqb, Result, Ok, Err}
 use Rattle.scope.specs.Numbers.{most_height, other, link_of, rule_of}
 use Rattle.scope.specs.Table.{word, change_word, slots_in, slot_at, son, link_at, written}
 use Rattle.scope.specs.Fit.{fit_slot, header_ok}
-use Rattle.scope.specs.Answers.{Done, refused, accepted}
+use Rattle.scope.specs.Answers.{Done, refused, accepted, and_then, if_named, on_slots}
 use Rattle.scope.specs.Rules.{guard_at, highest_at, action_at}
 use Rattle.scope.specs.declared.slot.Slot.{Slot}
 use Rattle.scope.specs.declared.side.Link.{Link}
-use Rattle.scope.specs.declared.side.LinkIs.{LinkIs}
-use Rattle.scope.specs.declared.side.LinkIs.TheVariants as link-is
 use Rattle.scope.specs.declared.rule.Kind.{Kind}
 use Rattle.scope.specs.declared.rule.Kind.TheVariants.{Propagate, Lean, Even, Double}
 use Rattle.scope.specs.declared.rule.Rule.{Rule}
-use Rattle.scope.specs.declared.rule.RuleIs.{RuleIs}
-use Rattle.scope.specs.declared.rule.RuleIs.TheVariants as rule-is
-use Rattle.scope.specs.declared.slots.SlotsIs.{SlotsIs}
-use Rattle.scope.specs.declared.slots.SlotsIs.TheVariants.{Within, Outside}
 use Rattle.scope.specs.declared.answer.Answer.{Answer}
-use Rattle.scope.specs.declared.answer.Refusal.TheVariants.{WrongLength, OutOfRange, Damaged, GuardFails, TooHigh}
-use Rattle.scope.specs.declared.outcome.Taken.{Taken}
-use Rattle.scope.specs.declared.outcome.Taken.TheVariants.{Got, Not}
+use Rattle.scope.specs.declared.answer.Refusal.{Refusal}
+use Rattle.scope.specs.declared.answer.Refusal.TheVariants.{Damaged, GuardFails, TooHigh}
 use Rattle.scope.specs.declared.outcome.Nodes.{Nodes}
-use Rattle.scope.specs.declared.outcome.Firing.{Firing}
-use Rattle.scope.specs.declared.outcome.Firing.TheVariants as firing
 
 -- slot k for a firing: it has to be there (8), and then fit and none of the slots before it (3); 0 stands for none
-unfoldable pub take_of : List ℕ → ℕ → ℕ → ℕ → ℕ → ℕ → Taken
+unfoldable pub take_of : List ℕ → ℕ → ℕ → ℕ → ℕ → ℕ → Result Slot Refusal
 take_of t c k a b e =
-    cond (eqb k 0) (Not GuardFails)
-    (cond (fit_slot c (slot_at t k) && not (eqb k a) && not (eqb k b) && not (eqb k e)) (Got (slot_at t k)) (Not Damaged))
-
-abbrev pub on_taken : Taken → (Slot → Firing) → Firing
-on_taken (Got s) f = f s
-on_taken (Not why) f = firing.Refuse why
+    cond (eqb k 0) (Err GuardFails)
+    (cond (fit_slot c (slot_at t k) && not (eqb k a) && not (eqb k b) && not (eqb k e)) (Ok (slot_at t k)) (Err Damaged))
 
 -- the guard (8), then the height limit (9)
-unfoldable pub judged : Rule → Nodes → Firing
+unfoldable pub judged : Rule → Nodes → Result (Rule × Nodes) Refusal
 judged r n =
-    cond (guard_at r n) (cond (leb (highest_at r n) most_height) (firing.Fire r n) (firing.Refuse TooHigh))
-    (firing.Refuse GuardFails)
+    cond (guard_at r n) (cond (leb (highest_at r n) most_height) (Ok (r, n)) (Err TooHigh))
+    (Err GuardFails)
 
 -- rules 7 and 8 want a third node
 abbrev pub has_third : Kind → Bool
@@ -49,9 +36,9 @@ has_third Double = true
 
 module _ (t : List ℕ) (c : ℕ) (r : Rule) (link : Link) where
   -- w, u's son on the other side, where the rule has one
-  unfoldable pub aim_w : ℕ → Slot → ℕ → Slot → Firing
+  unfoldable pub aim_w : ℕ → Slot → ℕ → Slot → Result (Rule × Nodes) Refusal
   aim_w v sv u su =
-      on_taken (take_of t c (son su (other r.side)) link.holder v u)
+      and_then (take_of t c (son su (other r.side)) link.holder v u)
       (λ sw. judged r (record {
         link = link;
         v = v;
@@ -63,9 +50,9 @@ module _ (t : List ℕ) (c : ℕ) (r : Rule) (link : Link) where
       }))
 
   -- u, v's son on the rule's side
-  unfoldable pub aim_u : ℕ → Slot → Firing
+  unfoldable pub aim_u : ℕ → Slot → Result (Rule × Nodes) Refusal
   aim_u v sv =
-      on_taken (take_of t c (son sv r.side) link.holder v 0)
+      and_then (take_of t c (son sv r.side) link.holder v 0)
       (λ su. cond (has_third r.kind) (aim_w v sv (son sv r.side) su)
       (judged r (record {
         link = link;
@@ -78,40 +65,28 @@ module _ (t : List ℕ) (c : ℕ) (r : Rule) (link : Link) where
       })))
 
   -- v, which hangs at the link
-  unfoldable pub aim_v : Firing
-  aim_v = on_taken (take_of t c (word t (link_at link)) link.holder 0 0) (λ sv. aim_u (word t (link_at link)) sv)
+  unfoldable pub aim_v : Result (Rule × Nodes) Refusal
+  aim_v = and_then (take_of t c (word t (link_at link)) link.holder 0 0) (λ sv. aim_u (word t (link_at link)) sv)
 
   -- the holder first: a free one ends it with 8, an unfit one with 3; the root's link has none
-  unfoldable pub aim : Firing
+  unfoldable pub aim : Result (Rule × Nodes) Refusal
   aim =
       cond (eqb link.holder 0) aim_v
-      (cond (eqb (slot_at t link.holder).state 0) (firing.Refuse GuardFails)
-      (cond (fit_slot c (slot_at t link.holder)) aim_v (firing.Refuse Damaged)))
+      (cond (eqb (slot_at t link.holder).state 0) (Err GuardFails)
+      (cond (fit_slot c (slot_at t link.holder)) aim_v (Err Damaged)))
 
 -- test 3's part for the header
-unfoldable pub aimed : List ℕ → ℕ → Rule → Link → Firing
-aimed t c r link = cond (header_ok c t) (aim t c r link) (firing.Refuse Damaged)
+unfoldable pub aimed : List ℕ → ℕ → Rule → Link → Result (Rule × Nodes) Refusal
+aimed t c r link = cond (header_ok c t) (aim t c r link) (Err Damaged)
 
-abbrev pub on_rule : RuleIs → (Rule → Firing) → Firing
-on_rule rule-is.Unknown f = firing.Refuse OutOfRange
-on_rule (rule-is.Known r) f = f r
-
-abbrev pub on_link : LinkIs → (Link → Firing) → Firing
-on_link link-is.Unknown f = firing.Refuse OutOfRange
-on_link (link-is.Known l) f = f l
-
-abbrev pub firing_in : SlotsIs → (ℕ → Firing) → Firing
-firing_in Outside f = firing.Refuse WrongLength
-firing_in (Within s) f = f s.count
-
-unfoldable pub fire_plan : List ℕ → ℕ → ℕ → ℕ → Firing
+unfoldable pub fire_plan : List ℕ → ℕ → ℕ → ℕ → Result (Rule × Nodes) Refusal
 fire_plan t rule holder side =
-    firing_in (slots_in (length t)) (λ c. on_rule (rule_of rule) (λ r. on_link (link_of c holder side) (λ l. aimed t c r l)))
+    on_slots (slots_in (length t)) (λ c. if_named (rule_of rule) (λ r. if_named (link_of c holder side) (λ l. aimed t c r l)))
 
 -- an accepted firing writes its words, and the change number stays
-unfoldable pub fired : List ℕ → Firing → Done
-fired t (firing.Refuse why) = refused t why
-fired t (firing.Fire r n) =
+unfoldable pub fired : List ℕ → Result (Rule × Nodes) Refusal → Done
+fired t (Err why) = refused t why
+fired t (Ok (r, n)) =
     record { answer = accepted (word t change_word) 0 0 0; words = written t (action_at r n) }
 
 unfoldable pub fire_of : List ℕ → ℕ → ℕ → ℕ → Done

@@ -1,12 +1,11 @@
 -- Where each word of the table stands, and how a slot is read and written (document 01, "The table").
-use Rattle.std.specs.Prelude.{ℕ, ◌+◌, ◌*◌, ◌-◌, ◌/◌, ◌%◌, ◌≤◌, cond, List, [], ◌∷◌, length, get_or, set, eqb}
+use Rattle.std.specs.Prelude.{ℕ, ◌+◌, ◌*◌, ◌-◌, ◌/◌, ◌%◌, ◌≤◌, cond, List, [], ◌∷◌, length, get_or, set, eqb, Option, None}
 use Rattle.scope.specs.Numbers.{slots_of}
 use Rattle.scope.specs.declared.side.Side.{Side}
 use Rattle.scope.specs.declared.side.Side.TheVariants.{Left, Right}
 use Rattle.scope.specs.declared.side.Link.{Link}
 use Rattle.scope.specs.declared.slot.Slot.{Slot}
-use Rattle.scope.specs.declared.slots.SlotsIs.{SlotsIs}
-use Rattle.scope.specs.declared.slots.SlotsIs.TheVariants.{Outside}
+use Rattle.scope.specs.declared.slots.Slots.{Slots}
 
 -- word i, counted from 0
 abbrev pub word : List ℕ → ℕ → ℕ
@@ -36,8 +35,8 @@ abbrev pub table_words : ℕ → ℕ
 table_words c = head_words + slot_words * c
 
 -- a table of n words has c slots if n is 4 + 8c
-unfoldable pub slots_in : ℕ → SlotsIs
-slots_in n = cond (eqb (n % slot_words) head_words) (slots_of (n / slot_words)) Outside
+unfoldable pub slots_in : ℕ → Option Slots
+slots_in n = cond (eqb (n % slot_words) head_words) (slots_of (n / slot_words)) None
 
 -- where the words of slot k begin; slots are counted from 1
 abbrev pub base : ℕ → ℕ

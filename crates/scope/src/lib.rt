@@ -9,13 +9,10 @@ pub mod side;
 pub mod slot;
 pub mod slots;
 
-pub use answer::{Answer, Gate, Refusal};
-pub use height::{Height, HeightIs};
-pub use outcome::{
-    Amending, Dropping, Firing, Leftmost, Next, Nodes, Passed, Posting, Rank, Scan, Step, Taken,
-    Visit, Walk,
-};
-pub use rule::{Kind, Pair, Rule, RuleIs};
-pub use side::{Link, LinkIs, Side, SideIs};
+pub use answer::{Answer, Denial, Refusal};
+pub use height::Height;
+pub use outcome::{Dropping, Leftmost, Nodes, Passed, Posting, Step, Visit, Walk};
+pub use rule::{Kind, Pair, Rule};
+pub use side::{Link, Side};
 pub use slot::{Head, Slot, State};
-pub use slots::{Slots, SlotsIs};
+pub use slots::Slots;

@@ -1,11 +1,9 @@
 // How the parts of a call end: each outcome by name.
-use crate::answer::Refusal;
-use crate::rule::Rule;
 use crate::side::{Link, Side};
 use crate::slot::Slot;
 
 // What one slot tells a walk: the key is here, go down to a slot, or the slot is not fit.
-#[derive(Clone, Copy)]
+#[derive(Clone, Copy, Debug, PartialEq, Eq)]
 pub enum Step {
     Here,
     Down(Side, usize),
@@ -13,14 +11,15 @@ pub enum Step {
 }
 
 // The last key that a walk has passed on each side of the one it is for: one below it, one above it, 0 for none.
-#[derive(Clone, Copy)]
+#[derive(Clone, Copy, Debug, PartialEq, Eq)]
 pub struct Passed {
     pub below: u32,
     pub above: u32,
 }
 
-// How a walk ends: at its slot, at the empty link where its key would hang, or at damage.
-#[derive(Clone, Copy)]
+// How a walk ends: at its slot, at the empty link where its key would hang, or at damage. Document 01 names these three
+// ends, so they are one enum, and no Result within a Result.
+#[derive(Clone, Copy, Debug, PartialEq, Eq)]
 pub enum Walk {
     Hit {
         slot: usize,
@@ -35,34 +34,24 @@ pub enum Walk {
     Damage,
 }
 
-// The leftmost slot of a subtree and the link that leads to it, or damage on the way.
-#[derive(Clone, Copy)]
-pub enum Leftmost {
-    Is { slot: usize, link: Link },
-    Broken,
+// The leftmost slot of a subtree and the link that leads to it.
+#[derive(Clone, Copy, Debug, PartialEq, Eq)]
+pub struct Leftmost {
+    pub slot: usize,
+    pub link: Link,
 }
 
-// What a post is to do.
-#[derive(Clone, Copy)]
-pub enum Posting {
-    Refuse(Refusal),
-    Hang { slot: usize, link: Link },
-}
-
-// What an amend is to do.
-#[derive(Clone, Copy)]
-pub enum Amending {
-    Refuse(Refusal),
-    Absent(Passed),
-    Change(usize),
+// What a post is to do: fill a slot, and hang it at a link.
+#[derive(Clone, Copy, Debug, PartialEq, Eq)]
+pub struct Posting {
+    pub slot: usize,
+    pub link: Link,
 }
 
 // What a drop is to do: take out a record with at most one son, or one with two whose place the
 // leftmost record of its right side takes.
-#[derive(Clone, Copy)]
+#[derive(Clone, Copy, Debug, PartialEq, Eq)]
 pub enum Dropping {
-    Refuse(Refusal),
-    Absent(Passed),
     Lift {
         slot: usize,
         link: Link,
@@ -75,36 +64,16 @@ pub enum Dropping {
     },
 }
 
-// What the soundness check finds at a slot.
-#[derive(Clone, Copy)]
-pub enum Visit {
-    Refused,
-    Entered { left: usize, right: usize, key: u64 },
-}
-
-// How many slots may still be reached after a scan, or that the table is damaged.
-#[derive(Clone, Copy)]
-pub enum Scan {
-    Damaged,
-    Left(usize),
-}
-
-// The slot of a rank, or how many records there are where they are fewer.
-#[derive(Clone, Copy)]
-pub enum Rank {
-    At(usize),
-    Past(usize),
-}
-
-// A slot that a firing names, or why it cannot be had.
-#[derive(Clone, Copy)]
-pub enum Taken {
-    Got(Slot),
-    Not(Refusal),
+// What the soundness check goes on with at a slot that it enters.
+#[derive(Clone, Copy, Debug, PartialEq, Eq)]
+pub struct Visit {
+    pub left: usize,
+    pub right: usize,
+    pub key: u64,
 }
 
 // The nodes of a firing: the link to v, and v, u and w with their words. Where a rule has no w, u stands for it.
-#[derive(Clone, Copy)]
+#[derive(Clone, Copy, Debug, PartialEq, Eq)]
 pub struct Nodes {
     pub link: Link,
     pub v: usize,
@@ -113,18 +82,4 @@ pub struct Nodes {
     pub sv: Slot,
     pub su: Slot,
     pub sw: Slot,
-}
-
-// What a firing is to do.
-#[derive(Clone, Copy)]
-pub enum Firing {
-    Refuse(Refusal),
-    Fire(Rule, Nodes),
-}
-
-// The first firing that is due, by its slot and its rule's number, or none.
-#[derive(Clone, Copy)]
-pub enum Next {
-    At(usize, u32),
-    Nothing,
 }

@@ -1,34 +1,20 @@
 // The two sides of a node, and the link that leads to a node: a holder and a side of it.
-ghost use Rattle.std.specs.Prelude.{◌≡◌};
+ghost use Rattle.std.specs.Prelude.{◌≡◌, ok_or};
 ghost use Rattle.scope.specs.Numbers.{other, side_of, link_of};
+ghost use Rattle.scope.specs.declared.answer.Refusal.TheVariants.{OutOfRange};
 
-#[derive(Clone, Copy)]
+use crate::answer::Refusal;
+
+#[derive(Clone, Copy, Debug, PartialEq, Eq)]
 pub enum Side {
     Left,
     Right,
-}
-
-// A raw number read as a side.
-#[derive(Clone, Copy)]
-pub enum SideIs {
-    Known(Side),
-    Unknown,
 }
 
 impl Side {
     pub const LEFT: u32 = 0;
 
     pub const RIGHT: u32 = 1;
-
-    pub fn of(raw: u32) -> SideIs
-        ensures { result ≡ side_of raw }
-    {
-        match raw {
-            Side::LEFT => SideIs::Known(Side::Left),
-            Side::RIGHT => SideIs::Known(Side::Right),
-            _ => SideIs::Unknown,
-        }
-    }
 
     pub fn other(self) -> Side
         ensures { result ≡ other self }
@@ -40,42 +26,49 @@ impl Side {
     }
 }
 
+// A raw number read as a side.
+impl TryFrom<u32> for Side {
+    type Error = Refusal;
+
+    ghost try_from_gives = { λ raw r. r ≡ ok_or (side_of raw) OutOfRange };
+
+    #[tactic(auto, unfolding(crate::specs::Numbers::side_of))]
+    fn try_from(raw: u32) -> Result<Side, Refusal> {
+        match raw {
+            Side::LEFT => Ok(Side::Left),
+            Side::RIGHT => Ok(Side::Right),
+            _ => Err(Refusal::OutOfRange),
+        }
+    }
+}
+
 // A link: a side of the slot that holds it, or the root's link, which slot 0 holds on its left.
-#[derive(Clone, Copy)]
+#[derive(Clone, Copy, Debug, PartialEq, Eq)]
 pub struct Link {
     pub holder: usize,
     pub side: Side,
 }
 
-// Two raw numbers read as a link of a table.
-#[derive(Clone, Copy)]
-pub enum LinkIs {
-    Known(Link),
-    Unknown,
-}
-
 impl Link {
     pub const ROOT: usize = 0;
 
-    pub fn of(slots: usize, holder: u32, side: u32) -> LinkIs
-        ensures { result ≡ link_of slots holder side }
+    // Two raw numbers read as a link of a table of so many slots: three numbers, so no TryFrom.
+    #[tactic(auto, unfolding(crate::specs::Numbers::link_of))]
+    pub fn of(slots: usize, holder: u32, side: u32) -> Result<Link, Refusal>
+        ensures { result ≡ ok_or (link_of slots holder side) OutOfRange }
     {
         let named = holder as usize;
         if slots < named {
-            return LinkIs::Unknown;
+            return Err(Refusal::OutOfRange);
         }
-        match Side::of(side) {
-            SideIs::Unknown => LinkIs::Unknown,
-            SideIs::Known(on) => {
-                if (named == Link::ROOT) & (side != Side::LEFT) {
-                    LinkIs::Unknown
-                } else {
-                    LinkIs::Known(Link {
-                        holder: named,
-                        side: on,
-                    })
-                }
-            }
+        let on = Side::try_from(side)?;
+        if (named == Link::ROOT) & (side != Side::LEFT) {
+            Err(Refusal::OutOfRange)
+        } else {
+            Ok(Link {
+                holder: named,
+                side: on,
+            })
         }
     }
 }

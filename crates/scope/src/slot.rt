@@ -3,7 +3,7 @@ ghost use Rattle.std.specs.Prelude.{◌≡◌};
 ghost use Rattle.scope.specs.Table.{zero_slot, with_record};
 
 // A word before the slots, by its place.
-#[derive(Clone, Copy)]
+#[derive(Clone, Copy, Debug, PartialEq, Eq)]
 pub struct Head {
     pub place: usize,
 }
@@ -20,7 +20,7 @@ impl Head {
     pub const WORDS: usize = 4;
 }
 
-#[derive(Clone, Copy)]
+#[derive(Clone, Copy, Debug, PartialEq, Eq)]
 pub struct Slot {
     pub state: u32,
     pub key: u32,
@@ -86,7 +86,8 @@ impl Slot {
     }
 }
 
-#[derive(Clone, Copy)]
+// The numbers of the states. A slot holds its words as they stand, damaged ones too, so its state stays a number.
+#[derive(Clone, Copy, Debug, PartialEq, Eq)]
 pub struct State {
     pub number: u32,
 }

@@ -1,29 +1,31 @@
 // How many slots a table has.
-ghost use Rattle.std.specs.Prelude.{◌≡◌};
+ghost use Rattle.std.specs.Prelude.{◌≡◌, ok_or};
 ghost use Rattle.scope.specs.Numbers.{slots_of};
+ghost use Rattle.scope.specs.declared.answer.Refusal.TheVariants.{WrongLength};
 
-#[derive(Clone, Copy)]
+use crate::answer::Refusal;
+
+#[derive(Clone, Copy, Debug, PartialEq, Eq)]
 pub struct Slots {
     pub count: usize,
 }
 
-// A raw number read as a number of slots.
-#[derive(Clone, Copy)]
-pub enum SlotsIs {
-    Within(Slots),
-    Outside,
-}
-
 impl Slots {
     pub const MOST: usize = 4095;
+}
 
-    pub fn of(raw: usize) -> SlotsIs
-        ensures { result ≡ slots_of raw }
-    {
+// A raw number read as a number of slots.
+impl TryFrom<usize> for Slots {
+    type Error = Refusal;
+
+    ghost try_from_gives = { λ raw r. r ≡ ok_or (slots_of raw) WrongLength };
+
+    #[tactic(auto, unfolding(crate::specs::Numbers::slots_of))]
+    fn try_from(raw: usize) -> Result<Slots, Refusal> {
         if (raw != 0) & (raw <= Slots::MOST) {
-            SlotsIs::Within(Slots { count: raw })
+            Ok(Slots { count: raw })
         } else {
-            SlotsIs::Outside
+            Err(Refusal::WrongLength)
         }
     }
 }

@@ -17,10 +17,10 @@ use Rattle.scope.specs.declared.slot.Slot.{Slot}
 use Rattle.marks.specs.Marks.{bit_at, Past}
 use Rattle.marks.proofs.Laws.{bit-small}
 use Rattle.marks.proofs.Passing.{all-on}
-use Rattle.sound.specs.Scan.{Fine, Good, Scanned, scan_of, settled_at, RestIs, spoiled}
+use Rattle.sound.specs.Scan.{Fine, Good, Scanned, settled_at, RestIs}
 use Rattle.tree.proofs.Keys.Bounds.{bounded, between}
 use Rattle.spelling.proofs.Spell.{unique}
-use Rattle.sound.proofs.Steps.{was-spoiled, was-left}
+use Rattle.std.specs.Prelude.{Option, Some, None}
 use Rattle.spelling.proofs.Exact.{sound-test, unsound}
 use Rattle.spelling.proofs.Once.{once-all}
 
@@ -118,17 +118,13 @@ module _ (t : List ℕ) (c : ℕ) where
             r.1.not_so))
 
       -- the scan finds damage, or fewer slots than word 1 says
-      pub by-missing : (n : ℕ) → (n ≡ 0 → ⊥)
-          → Scanned t z m c (word t count_word) (word t root_word) 0 4294967296 (scan_of n) → sound_table t c ≡ false
-      by-missing n ne s =
-          elim (ℕ_discrete n spoiled) [
-            | yes e ↦ by-scan (was-spoiled t z m c (word t count_word) (word t root_word) 0 4294967296 e s)
-            | no d ↦ by_count n (was-left t z m c (word t count_word) (word t root_word) 0 4294967296 d s) ne
-          ]
+      pub by-missing : (o : Option ℕ) → (o ≡ Some 0 → ⊥)
+          → Scanned t z m c (word t count_word) (word t root_word) 0 4294967296 o → sound_table t c ≡ false
+      by-missing None ne s = by-scan s
+      by-missing (Some n) ne s = by_count n s (λ e. ne (ap Some e))
 
       -- the scan reaches as many as word 1 says
-      pub by-pass : header_ok c t ≡ true → (n : ℕ) → n ≡ 0
-          → Scanned t z m c (word t count_word) (word t root_word) 0 4294967296 (scan_of n)
+      pub by-pass : header_ok c t ≡ true → (o : Option ℕ) → o ≡ Some 0
+          → Scanned t z m c (word t count_word) (word t root_word) 0 4294967296 o
           → (b : Bool) → RestIs t m c b → b ≡ sound_table t c
-      by-pass h n e s b r =
-          by-rest n (was-left t z m c (word t count_word) (word t root_word) 0 4294967296 (λ q. omega arith) s) h e b r
+      by-pass h o e s b r = by-rest 0 (rw e at s) h refl b r

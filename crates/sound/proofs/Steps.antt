@@ -5,23 +5,21 @@ use mathlib.Core.Bool.{Bool, true, false, ◌&&◌}
 use mathlib.Core.List.{List}
 use native.Mathlib.Omega.{arith}
 use lib.Dec.{eqb, ltb}
-use borrow.Author.Tests.{eq-eqb, ne_eqb, ltb-true, lt-ltb}
+use borrow.Author.Tests.{ne_eqb, ltb-true, lt-ltb}
 use Rattle.scope.proofs.Bools.{and_l, and_r, neither, both}
-use Rattle.scope.specs.Numbers.{most_slots}
 use Rattle.scope.specs.Table.{slot_at}
 use Rattle.scope.specs.Fit.{fit_slot}
 use Rattle.scope.specs.Tree.{Batch, Tree, leaf, node, size, same, times}
 use Rattle.scope.specs.Sound.{Spells, batch_at}
 use Rattle.scope.specs.declared.slot.Slot.{Slot}
-use Rattle.scope.specs.declared.outcome.Scan.{Scan}
-use Rattle.scope.specs.declared.outcome.Scan.TheVariants.{Damaged, Left}
 use Rattle.spelling.proofs.Laws.{fit-left, fit-right}
 use Rattle.marks.specs.Marks.{bit_at, Marked}
 use Rattle.marks.proofs.Laws.{bit-small, unmarked, adds}
-use Rattle.sound.specs.Scan.{Looking, in_place, Welcome, EnteredSlot, Fine, Good, Scanned, scan_of, spoiled}
+use Rattle.sound.specs.Scan.{in_place, Welcome, EnteredSlot, Fine, Good, Scanned}
 use Rattle.tree.specs.Between.{Between}
 use Rattle.spelling.proofs.Spell.{topped, unique}
 use Rattle.spelling.proofs.Frame.{same_self}
+use Rattle.std.specs.Prelude.{Option, Some, None}
 
 -- what a slot in its place tells
 pub record PlacedBetween (c : ℕ) (s : Slot) (low high : ℕ) : Type 0 where
@@ -52,9 +50,9 @@ module _ {t m : List ℕ} {c x low high : ℕ} {a : Bool} (ea : a ≡ eqb (bit_a
     pub misplaced : b ≡ false → Welcome t m c x low high → ⊥
     misplaced p w = neither w.place (ap (λ (v : Slot). in_place c v low high) (sym es) ∙ sym eb ∙ p)
 
-    pub slot-entered : {m' : List ℕ} {l r k : ℕ} → a ≡ false → b ≡ true → Marked m x m'
-        → l ≡ s.left → r ≡ s.right → k ≡ s.key → EnteredSlot t m m' c x low high l r k
-    slot-entered p q mark l r k = record {
+    pub slot-entered : {m' : List ℕ} {k : ℕ} → a ≡ false → b ≡ true → Marked m x m'
+        → k ≡ s.key → EnteredSlot t m m' c x low high s.left s.right k
+    slot-entered p q mark k = record {
       welcome = record {
         free = unmarked m x (sym ea ∙ p);
         place = ap (λ (v : Slot). in_place c v low high) (sym es) ∙ sym eb ∙ q;
@@ -133,14 +131,13 @@ module _ (t m : List ℕ) (c x low high : ℕ) where
   }
 
   -- the empty link
-  pub at_end : (more : ℕ) → Looking t m c x → x ≡ 0 → Good t m m c more x low high more
+  pub at_end : (more : ℕ) → x ≡ 0 → Good t m m c more x low high more
   unfolding Spells Between times size
-  at_end more p e = record {
+  at_end more e = record {
     tree = leaf;
     fine = record { reached = e; keys = tt; free = λ k h. omega (arith, bit-small m k) };
     used = omega arith;
     marked = λ k h. omega arith;
-    marks = p.marks;
   }
 
   module _ (more : ℕ) (p : 1 ≤ x) (h : x < 4096) where
@@ -196,31 +193,9 @@ module _ (t m : List ℕ) (c x low high : ℕ) where
               });
           used = omega (arith, g.used, g₂.used);
           marked = λ j hj. omega (arith, adds o.mark o.welcome.free j hj, g.marked j hj, g₂.marked j hj);
-          marks = g₂.marks;
         }
 
         -- after both sides
-        pub right-part : (res : Scan) → Scanned t m₂ m₃ c n r k high res → Scanned t m m₃ c more x low high res
-        right-part Damaged none' = right-refused none'
-        right-part (Left n₃) g₂ = both-good n₃ g₂
-
--- a scan's number, and what it says
-module _ (t m m' : List ℕ) (c more x low high : ℕ) where
-  pub is-spoiled : ((T : Tree) → Fine t m c x low high T → size T ≤ more → ⊥)
-      → Scanned t m m' c more x low high (scan_of spoiled)
-  unfolding scan_of
-  is-spoiled f = f
-
-  pub was-spoiled : {n : ℕ} → n ≡ spoiled → Scanned t m m' c more x low high (scan_of n)
-      → (T : Tree) → Fine t m c x low high T → size T ≤ more → ⊥
-  unfolding scan_of
-  was-spoiled {n} e s = simp (eq-eqb n spoiled e) at s
-
-  pub is-left : {n : ℕ} → n ≤ most_slots → Good t m m' c more x low high n → Scanned t m m' c more x low high (scan_of n)
-  unfolding scan_of
-  is-left {n} h g = simp (ne_eqb n spoiled (λ e. omega arith)) g
-
-  pub was-left : {n : ℕ} → (n ≡ spoiled → ⊥) → Scanned t m m' c more x low high (scan_of n)
-      → Good t m m' c more x low high n
-  unfolding scan_of
-  was-left {n} ne s = simp (ne_eqb n spoiled ne) at s
+        pub right-part : (res : Option ℕ) → Scanned t m₂ m₃ c n r k high res → Scanned t m m₃ c more x low high res
+        right-part None none' = right-refused none'
+        right-part (Some n₃) g₂ = both-good n₃ g₂

@@ -1,5 +1,5 @@
 -- What the scan of the soundness check promises, and the pass after it. Assumes nothing: these are statements.
-use Rattle.std.specs.Prelude.{ℕ, ◌+◌, ◌≤◌, ◌<◌, ◌≡◌, Bool, true, false, cond, ◌&&◌, ◌||◌, List, length, eqb, ltb}
+use Rattle.std.specs.Prelude.{ℕ, ◌+◌, ◌≤◌, ◌<◌, ◌≡◌, Bool, true, false, ◌&&◌, ◌||◌, List, eqb, ltb}
 use Rattle.scope.specs.Numbers.{most_slots}
 use Rattle.scope.specs.Table.{slot_at}
 use Rattle.scope.specs.Fit.{fit_slot, blank_slot}
@@ -7,22 +7,19 @@ use Rattle.scope.specs.Tree.{Tree, size, times}
 use Rattle.scope.specs.Sound.{Spells}
 use Rattle.scope.specs.declared.slot.Slot.{Slot}
 use Rattle.scope.specs.declared.outcome.Visit.{Visit}
-use Rattle.scope.specs.declared.outcome.Visit.TheVariants.{Refused, Entered}
-use Rattle.scope.specs.declared.outcome.Scan.{Scan}
-use Rattle.scope.specs.declared.outcome.Scan.TheVariants.{Damaged, Left}
 use Rattle.spelling.specs.Ready.{Sized}
 use Rattle.tree.specs.Between.{Between}
 use Rattle.marks.specs.Marks.{bit_at, Marked}
+use Rattle.std.specs.Prelude.{Option, Some, None}
 
--- a table of c slots with its marks, and a link of it
-pub record Looking (t m : List ℕ) (c x : ℕ) : Type 0 where
+-- a table of c slots, and a link of it
+pub record Looking (t : List ℕ) (c x : ℕ) : Type 0 where
   pub sized : Sized t c
   pub link : x ≤ c
-  pub marks : length m ≡ 64
 
 -- and how many slots may still be reached
-pub record Scanning (t m : List ℕ) (c more x : ℕ) : Type 0 where
-  pub looking : Looking t m c x
+pub record Scanning (t : List ℕ) (c more x : ℕ) : Type 0 where
+  pub looking : Looking t c x
   pub few : more ≤ most_slots
 
 -- the slot is fit and its key lies between two bounds
@@ -42,9 +39,9 @@ pub record EnteredSlot (t m m' : List ℕ) (c x low high l r k : ℕ) : Type 0 w
   pub right : r ≡ (slot_at t x).right
   pub key : k ≡ (slot_at t x).key
 
-abbrev pub VisitSays : List ℕ → List ℕ → List ℕ → ℕ → ℕ → ℕ → ℕ → Visit → Type 0
-VisitSays t m m' c x low high Refused = Welcome t m c x low high → ⊥
-VisitSays t m m' c x low high (Entered l r k) = EnteredSlot t m m' c x low high l r k
+abbrev pub VisitSays : List ℕ → List ℕ → List ℕ → ℕ → ℕ → ℕ → ℕ → Option Visit → Type 0
+VisitSays t m m' c x low high None = Welcome t m c x low high → ⊥
+VisitSays t m m' c x low high (Some v) = EnteredSlot t m m' c x low high v.left v.right v.key
 
 -- the tree hangs at link x, its keys in order, each of its slots reached once and not marked before
 pub record Fine (t m : List ℕ) (c x low high : ℕ) (T : Tree) : Type 0 where
@@ -58,20 +55,11 @@ pub record Good (t m m' : List ℕ) (c more x low high n : ℕ) : Type 0 where
   pub fine : Fine t m c x low high tree
   pub used : size tree + n ≡ more
   pub marked : (k : ℕ) → k < 4096 → bit_at m' k ≡ bit_at m k + times k tree
-  pub marks : length m' ≡ 64
 
 -- it finds damage only where no tree of so few slots hangs
-abbrev pub Scanned : List ℕ → List ℕ → List ℕ → ℕ → ℕ → ℕ → ℕ → ℕ → Scan → Type 0
-Scanned t m m' c more x low high Damaged = (T : Tree) → Fine t m c x low high T → size T ≤ more → ⊥
-Scanned t m m' c more x low high (Left n) = Good t m m' c more x low high n
-
--- what a scan says that finds damage
-abbrev pub spoiled : ℕ
-spoiled = most_slots + 1
-
--- a scan's number: how many are left over, or damage
-unfoldable pub scan_of : ℕ → Scan
-scan_of n = cond (eqb n spoiled) Damaged (Left n)
+abbrev pub Scanned : List ℕ → List ℕ → List ℕ → ℕ → ℕ → ℕ → ℕ → ℕ → Option ℕ → Type 0
+Scanned t m m' c more x low high None = (T : Tree) → Fine t m c x low high T → size T ≤ more → ⊥
+Scanned t m m' c more x low high (Some n) = Good t m m' c more x low high n
 
 -- slot k is marked, or blank
 unfoldable pub settled_at : List ℕ → List ℕ → ℕ → Bool

@@ -7,6 +7,7 @@ use native.Mathlib.Omega.{arith}
 use borrow.Author.Tests.{leb-true, eqb-true, eqb-false, ne_eqb}
 use lib.ListN.{length}
 use lib.Dec.{eqb, leb}
+use Rattle.scope.proofs.Errs.{named_so}
 use Rattle.scope.proofs.Bools.{and_l, and_r, by_bool, never}
 use Rattle.scope.specs.Numbers.{slots_of}
 use Rattle.scope.specs.Table.{head_words, slot_words, word, root_word, count_word, slots_in, base, slot_at, son, link_at}
@@ -15,16 +16,15 @@ use Rattle.scope.specs.Fit.{state_ok, pieces_ok, link_ok, tail_fits, fit_slot, h
 use Rattle.scope.specs.Answers.{gate, on_slots, admit}
 use Rattle.scope.specs.declared.slot.Slot.{Slot}
 use Rattle.scope.specs.declared.slots.Slots.{Slots}
-use Rattle.scope.specs.declared.slots.SlotsIs.{SlotsIs}
-use Rattle.scope.specs.declared.slots.SlotsIs.TheVariants.{Within, Outside}
 use Rattle.scope.specs.declared.side.Side.{Side}
 use Rattle.scope.specs.declared.side.Side.TheVariants.{Left, Right}
 use Rattle.scope.specs.declared.side.Link.{Link}
-use Rattle.scope.specs.declared.answer.Gate.TheVariants.{Open}
 use Rattle.spelling.specs.Ready.{Sized, Ready}
+use Rattle.std.specs.Prelude.{Option, Some, None, Ok, ok_or}
+use Rattle.scope.specs.declared.answer.Refusal.{Refusal}
 
 -- a number of slots that is taken is from 1 to 4,095
-slots-in-range : (n : ℕ) (s : Slots) → slots_of n ≡ Within s → (s.count ≡ n) × (1 ≤ n) × (n ≤ 4095)
+slots-in-range : (n : ℕ) (s : Slots) → slots_of n ≡ Some s → (s.count ≡ n) × (1 ≤ n) × (n ≤ 4095)
 unfolding slots_of
 slots-in-range n s e =
     by_bool (not (eqb n 0) && leb n 4095)
@@ -36,7 +36,7 @@ slots-in-range n s e =
     (λ p. let z = simp p at e in never cc)
 
 -- the slots of a length fill it
-pub slots-room : (t : List ℕ) (s : Slots) → slots_in (length t) ≡ Within s → Sized t s.count
+pub slots-room : (t : List ℕ) (s : Slots) → slots_in (length t) ≡ Some s → Sized t s.count
 unfolding slots_in
 slots-room t s e =
     by_bool (eqb (length t % slot_words) head_words)
@@ -44,6 +44,10 @@ slots-room t s e =
     let k = slots-in-range (length t / slot_words) s z in
     record { room = omega (arith, eqb-true (length t % slot_words) head_words p); some = omega arith; most = omega arith })
     (λ p. let z = simp p at e in never cc)
+
+-- the same of slots that a length answers
+pub slots_sized : (t : List ℕ) (s : Slots) (why : Refusal) → ok_or (slots_in (length t)) why ≡ Ok s → Sized t s.count
+slots_sized t s why e = slots-room t s (named_so _ why e)
 
 -- what a good header tells
 pub header-root : (c : ℕ) (t : List ℕ) → header_ok c t ≡ true → word t root_word ≤ c
@@ -60,25 +64,25 @@ pub record Passed (t : List ℕ) (good : Bool) (whole : ℕ → Bool) (c : ℕ) 
   pub good_is : good ≡ true
   pub whole_is : whole c ≡ true
 
-admitted : (good whole : Bool) (n c : ℕ) → admit good whole n ≡ Open c → (n ≡ c) × (good ≡ true) × (whole ≡ true)
+admitted : (good whole : Bool) (n c : ℕ) → admit good whole n ≡ Ok c → (n ≡ c) × (good ≡ true) × (whole ≡ true)
 admitted true true n c e = (cc, refl, refl)
 admitted true false n c e = never cc
 admitted false whole n c e = never cc
 
 -- the same for a slot count that has been read
-gate-at : (t : List ℕ) (good : Bool) (whole : ℕ → Bool) (c : ℕ) (s : SlotsIs) → slots_in (length t) ≡ s
-    → on_slots s (λ n. admit good (whole n) n) ≡ Open c → Passed t good whole c
-gate-at t good whole c Outside q e = never cc
-gate-at t good whole c (Within s) q e =
+gate-at : (t : List ℕ) (good : Bool) (whole : ℕ → Bool) (c : ℕ) (s : Option Slots) → slots_in (length t) ≡ s
+    → on_slots s (λ n. admit good (whole n) n) ≡ Ok c → Passed t good whole c
+gate-at t good whole c None q e = never cc
+gate-at t good whole c (Some s) q e =
     let p = admitted good (whole s.count) s.count c e in
     record { sized = rw (← p.0) (slots-room t s q); good_is = p.1; whole_is = rw (← p.0) p.2 }
 
-pub gate-passed : (t : List ℕ) (good : Bool) (whole : ℕ → Bool) (c : ℕ) → gate t good whole ≡ Open c → Passed t good whole c
+pub gate-passed : (t : List ℕ) (good : Bool) (whole : ℕ → Bool) (c : ℕ) → gate t good whole ≡ Ok c → Passed t good whole c
 unfolding gate
 gate-passed t good whole c e = gate-at t good whole c (slots_in (length t)) refl e
 
 -- a call that tests the header at its gate finds the table ready
-pub gate-ready : (t : List ℕ) (good : Bool) (c : ℕ) → gate t good (λ n. header_ok n t) ≡ Open c → Ready t c
+pub gate-ready : (t : List ℕ) (good : Bool) (c : ℕ) → gate t good (λ n. header_ok n t) ≡ Ok c → Ready t c
 gate-ready t good c e =
     let p = gate-passed t good (λ n. header_ok n t) c e in
     record { sized = p.sized; root = header-root c t p.whole_is; count = header-count c t p.whole_is }

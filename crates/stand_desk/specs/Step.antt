@@ -1,5 +1,5 @@
 -- One step of `stand` (document 01, "The program").
-use Rattle.std.specs.Prelude.{ℕ, List}
+use Rattle.std.specs.Prelude.{ℕ, List, Option, Some, None}
 use Rattle.scope.specs.Answers.{refusal}
 use Rattle.scope.specs.Calls.{Call, answer_of, table_of}
 use Rattle.scope.specs.Calls as calls
@@ -7,7 +7,7 @@ use Rattle.scope.specs.declared.answer.Refusal.TheVariants as refusals
 use Rattle.text_lines.specs.Form.{command_of}
 use Rattle.text_lines.specs.declared.command.Command.{Command}
 use Rattle.text_lines.specs.declared.command.Command.TheVariants.{Post, Amend, Drop, Find, Rank, Total, Worth}
-use Rattle.text_lines.specs.declared.command.Command.TheVariants.{Fire, Tidy, List as Listing, Unreadable}
+use Rattle.text_lines.specs.declared.command.Command.TheVariants.{Fire, Tidy, List as Listing}
 use Rattle.text_print.specs.Line.{answer_line}
 use Rattle.text_list.specs.List.{list_text}
 use Rattle.stand_desk.specs.declared.Reply.{Reply}
@@ -19,18 +19,21 @@ pub data Wish : Type 0 where
   list : Wish
   nothing : Wish
 
-unfoldable pub wish_of : Command → Wish
-wish_of (Post key pieces state) = call (calls.Post key pieces state)
-wish_of (Amend key pieces state) = call (calls.Amend key pieces state)
-wish_of (Drop key) = call (calls.Drop key)
-wish_of (Find key) = call (calls.Find key)
-wish_of (Rank r) = call (calls.Rank r)
-wish_of (Total key) = call (calls.Total key)
-wish_of Worth = call calls.Worth
-wish_of (Fire rule holder side) = call (calls.Fire rule holder side)
-wish_of (Tidy budget) = call (calls.Tidy budget)
-wish_of Listing = list
-wish_of Unreadable = nothing
+unfoldable pub wished : Command → Wish
+wished (Post key pieces state) = call (calls.Post key pieces state)
+wished (Amend key pieces state) = call (calls.Amend key pieces state)
+wished (Drop key) = call (calls.Drop key)
+wished (Find key) = call (calls.Find key)
+wished (Rank r) = call (calls.Rank r)
+wished (Total key) = call (calls.Total key)
+wished Worth = call calls.Worth
+wished (Fire rule holder side) = call (calls.Fire rule holder side)
+wished (Tidy budget) = call (calls.Tidy budget)
+wished Listing = list
+
+abbrev pub wish_of : Option Command → Wish
+wish_of (Some x) = wished x
+wish_of None = nothing
 
 -- what is to be printed, and the table afterwards
 unfoldable pub reply_of : List ℕ → Wish → Reply

@@ -16,18 +16,21 @@ pub const DESK_WORDS: usize = Head::WORDS + Slot::WORDS * DESK_SLOTS;
 
 pub const DESK_ROOM: usize = 133 + 214 * DESK_SLOTS;
 
-// What is to be printed: an answer, or the whole list.
+// What is to be printed: an answer, or the whole list. Both are replies, so this is no Option.
 #[derive(Clone, Copy)]
 pub enum Reply {
     Say(Answer),
     List,
 }
 
-// Carries a command out.
-fn carry_out(t: &mut [u32], command: Command) -> Reply
+// Carries out what a line asks for: one that asks for nothing is unreadable.
+fn carry_out(t: &mut [u32], command: Option<Command>) -> Reply
     ensures { (result ≡ reply_of t.old (wish_of command))
         × (t.new ≡ table_after t.old (wish_of command)) }
 {
+    let Some(command) = command else {
+        return Reply::Say(gate::refuse(Refusal::Unreadable));
+    };
     match command {
         Command::Post { key, pieces, state } => Reply::Say(index::post(t, key, pieces, state)),
         Command::Amend { key, pieces, state } => Reply::Say(index::amend(t, key, pieces, state)),
@@ -39,7 +42,6 @@ fn carry_out(t: &mut [u32], command: Command) -> Reply
         Command::Fire { rule, holder, side } => Reply::Say(index::fire(t, rule, holder, side)),
         Command::Tidy { budget } => Reply::Say(index::tidy(t, budget)),
         Command::List => Reply::List,
-        Command::Unreadable => Reply::Say(gate::refuse(Refusal::Unreadable)),
     }
 }
 

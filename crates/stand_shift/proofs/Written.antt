@@ -1,15 +1,15 @@
 -- What a writer has after several pieces, and what a reader gave: where those bytes are known. Assumes nothing.
 use Prim.Native.Nat.{ℕ, ◌+◌, ◌≤◌, ◌<◌}
-use mathlib.Core.Path.{◌≡◌, refl, sym, ap, ◌∙◌}
-use mathlib.Core.Bool.{Bool, true, false}
-use mathlib.Core.List.{List, [], ◌++◌, append-nil}
+use mathlib.Core.Path.{◌≡◌, sym}
+use mathlib.Core.List.{List, ◌++◌}
 use native.Mathlib.Omega.{arith}
 use lib.ListN.{length, take, length-append}
 use lib.Seq.{take_all}
 use Rattle.std.proofs.Math.Seq.{take-add}
-use Rattle.std.specs.Prelude.{None, Some, IfSome}
+use Rattle.std.specs.Prelude.{None, Some, IfSome, Ok, Err, Result, OnOk}
+use Rattle.std.specs.Result.{result_and}
 use Rattle.std.specs.declared.option.Option.{Option}
-use Rattle.std.specs.Io.KnownBytes.{Appends, Consumes, IsAtEnd}
+use Rattle.std.specs.Io.KnownBytes.{Appends, Consumes}
 use Rattle.std.proofs.KnownBytes.{Appends-trans}
 use Rattle.stand_shift.specs.Run.{most_input, run_text, AnsweredSo}
 use Rattle.stand_shift.proofs.Telling.{ToldSoFar, told-piece, too_long}
@@ -26,13 +26,16 @@ pub written-all : (a b : Option (List ℕ)) (sent : ℕ) (s : List ℕ) → sent
     → Appends a b (take sent (run_text s)) → Appends a b (run_text s)
 written-all a b sent s e p = rw (take_all sent (run_text s) (omega (arith, e))) at p
 
--- WHAT WAS READ IS ALL THAT THE READER HAD, OR IS TOO LONG ALREADY: THE ANSWER IS THE SAME
-pub read-all : (given left old new : Option (List ℕ)) (ended : Bool) (s : List ℕ) → Consumes given left s
-    → (ended ≡ true → IsAtEnd left) → (ended ≡ false → most_input < length s) → Appends old new (run_text s)
-    → IfSome given (λ xs. Appends old new (run_text xs))
-read-all None left old new ended s p end more q = tt
-read-all (Some xs) None old new ended s p end more q = absurd p
-read-all (Some xs) (Some ys) old new true s p end more q = rw (p, end refl, append-nil s) q
-read-all (Some xs) (Some ys) old new false s p end more q =
-    let l = more refl in
-    rw (p, too_long (s ++ ys) (omega (arith, l, length-append s ys)), sym (too_long s l)) q
+-- what holds after two writes that were both made
+pub both-made : {T E P Q S : Type 0} (r s : Result T E) → OnOk r P → OnOk s Q → (P → Q → S) → OnOk (result_and r s) S
+both-made (Ok x) (Ok y) p q f = f p q
+both-made (Ok x) (Err e) p q f = tt
+both-made (Err e) s p q f = tt
+
+-- WHAT WAS READ IS TOO LONG ALREADY: THE ANSWER IS THE SAME, WHATEVER ELSE THE READER HAD
+pub read-full : (given left old new : Option (List ℕ)) (s : List ℕ) (k : ℕ) → Consumes given left (take k s) → length s ≤ k
+    → most_input < length s → Appends old new (run_text s) → IfSome given (λ xs. Appends old new (run_text xs))
+read-full None left old new s k p whole long q = tt
+read-full (Some xs) None old new s k p whole long q = absurd p
+read-full (Some xs) (Some ys) old new s k p whole long q =
+    rw (p, take_all k s whole, too_long (s ++ ys) (omega (arith, long, length-append s ys)), sym (too_long s long)) q

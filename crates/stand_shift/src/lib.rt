@@ -26,6 +26,7 @@ pub fn fill(t: &mut [u32], input: &[u8], from: usize, out: &mut [u8]) -> Filled
     let last = out.len() - DESK_ROOM;
     let mut next = from;
     let mut at = 0;
+    // A `while`: a turn goes on where a line ended, and where there is no room the next call goes on.
     while next < input.len() {
         if last < at {
             return Filled { next, at };

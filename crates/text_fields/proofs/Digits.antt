@@ -1,37 +1,31 @@
 -- A run of digits read one by one, as `digits_at` does. Assumes nothing.
 use Prim.Native.Nat.{ℕ, ◌+◌, ◌*◌, ◌-◌, ◌≤◌, ◌<◌}
-use mathlib.Core.Path.{◌≡◌, ap, ◌∙◌}
-use mathlib.Core.Bool.{cond}
+use mathlib.Core.Path.{◌≡◌, sym, ap, ◌∙◌}
+use mathlib.Core.Bool.{true, false, cond}
 use mathlib.Core.List.{List, [], ◌∷◌}
 use native.Mathlib.Omega.{arith}
-use native.Mathlib.Numerals.{add-one}
 use native.Mathlib.Nat.{le_refl, add-zero}
-use lib.ListN.{length, drop, get_or, drop_of_length-le}
-use lib.Seq.{drop-cons}
+use lib.ListN.{length, drop, get_or}
 use borrow.Author.Tests.{le-leb, lt-leb}
+use Rattle.std.proofs.lemmas.List.{at_drop_more, at_drop_all}
+use Rattle.std.specs.Prelude.{Some, None}
 use Rattle.text_fields.specs.Number.{largest, is_digit, digits_of, value_from, digits_read, digits_at}
-use Rattle.text_fields.specs.declared.number.DigitsRead.TheVariants.{Digits, TooLarge}
 
 pub digits_step : (s : List ℕ) (i : ℕ) → i < length s
     → digits_of (drop i s) ≡ cond (is_digit (get_or s i 0)) (get_or s i 0 ∷ digits_of (drop (i + 1) s)) []
 unfolding digits_of
-digits_step s i h = rw (add-one, drop-cons s i 0)
+digits_step s i h = at_drop_more digits_of s i 0 h
 
 pub digits-end : (s : List ℕ) (i : ℕ) → length s ≤ i → digits_of (drop i s) ≡ []
 unfolding digits_of
-digits-end s i h = rw (drop_of_length-le s h)
+digits-end s i h = at_drop_all digits_of s i h
 
-pub digits_low : (s : List ℕ) (i : ℕ) → i < length s → get_or s i 0 < 48 → digits_of (drop i s) ≡ []
-digits_low s i h k = digits_step s i h ∙ rw (lt-leb 48 (get_or s i 0) k)
-
-pub digits-high : (s : List ℕ) (i : ℕ) → i < length s → 57 < get_or s i 0 → digits_of (drop i s) ≡ []
-digits-high s i h k =
-    let l : 48 ≤ get_or s i 0 = omega arith in
-    digits_step s i h ∙ rw (le-leb 48 (get_or s i 0) l, lt-leb (get_or s i 0) 57 k)
-
-pub digits_more : (s : List ℕ) (i : ℕ) → i < length s → 48 ≤ get_or s i 0 → get_or s i 0 ≤ 57
+pub digits_more : (s : List ℕ) (i : ℕ) → i < length s → is_digit (get_or s i 0) ≡ true
     → digits_of (drop i s) ≡ get_or s i 0 ∷ digits_of (drop (i + 1) s)
-digits_more s i h l k = digits_step s i h ∙ rw (le-leb 48 (get_or s i 0) l, le-leb (get_or s i 0) 57 k)
+digits_more s i h d = digits_step s i h ∙ rw d
+
+pub digits-over : (s : List ℕ) (i : ℕ) → i < length s → is_digit (get_or s i 0) ≡ false → digits_of (drop i s) ≡ []
+digits-over s i h d = digits_step s i h ∙ rw d
 
 -- what more digits make is no less
 pub value_grows : (v : ℕ) (text : List ℕ) → v ≤ value_from v text
@@ -39,46 +33,38 @@ unfolding value_from
 value_grows v [] = le_refl v
 value_grows v (c ∷ text) = omega (arith, value_grows (v * 10 + (c - 48)) text)
 
--- ---- the loop of `digits_at`: what holds at the place i, where the digits so far are worth v
-pub record Reading (s : List ℕ) (at v i : ℕ) : Type 0 where
+-- ---- the loop of `digits_at`: what holds at the place i of the text s, where the digits so far are worth v
+pub record Reading (s : List ℕ) (v i : ℕ) : Type 0 where
   pub small : v ≤ largest
-  pub value : value_from 0 (digits_of (drop at s)) ≡ value_from v (digits_of (drop i s))
-  pub place : at + length (digits_of (drop at s)) ≡ i + length (digits_of (drop i s))
+  pub value : value_from 0 (digits_of s) ≡ value_from v (digits_of (drop i s))
+  pub place : length (digits_of s) ≡ i + length (digits_of (drop i s))
 
-reading-more : {s : List ℕ} {at v i : ℕ} → Reading s at v i → i < length s → 48 ≤ get_or s i 0 → get_or s i 0 ≤ 57
-    → value_from 0 (digits_of (drop at s)) ≡ value_from (v * 10 + (get_or s i 0 - 48)) (digits_of (drop (i + 1) s))
+reading-more : {s : List ℕ} {v i : ℕ} → Reading s v i → i < length s → is_digit (get_or s i 0) ≡ true
+    → value_from 0 (digits_of s) ≡ value_from (v * 10 + (get_or s i 0 - 48)) (digits_of (drop (i + 1) s))
 unfolding value_from
-reading-more {s} {at} {v} {i} r h l k = r.value ∙ rw (digits_more s i h l k)
+reading-more {s} {v} {i} r h d = r.value ∙ rw (digits_more s i h d)
 
-pub reading-next : {s : List ℕ} {at v i : ℕ} → Reading s at v i → i < length s → 48 ≤ get_or s i 0 → get_or s i 0 ≤ 57
-    → v * 10 + (get_or s i 0 - 48) ≤ largest → Reading s at (v * 10 + (get_or s i 0 - 48)) (i + 1)
-reading-next {s} {at} {v} {i} r h l k b =
+pub reading-next : {s : List ℕ} {v i : ℕ} (w : ℕ) → Reading s v i → i < length s → is_digit (get_or s i 0) ≡ true
+    → w ≡ v * 10 + (get_or s i 0 - 48) → w ≤ largest → Reading s w (i + 1)
+reading-next {s} {v} {i} w r h d e b =
     record {
       small = b;
-      value = reading-more r h l k;
-      place = omega (arith, r.place, ap length (digits_more s i h l k));
+      value = rw e (reading-more r h d);
+      place = omega (arith, r.place, ap length (digits_more s i h d));
     }
 
-pub reading-over : {s : List ℕ} {at v i : ℕ} → Reading s at v i → i < length s → 48 ≤ get_or s i 0 → get_or s i 0 ≤ 57
-    → largest < v * 10 + (get_or s i 0 - 48) → TooLarge ≡ digits_at s at
+pub reading-over : {s : List ℕ} {v i : ℕ} (l : List ℕ) (at : ℕ) → s ≡ drop at l → Reading s v i → i < length s
+    → is_digit (get_or s i 0) ≡ true → largest < v * 10 + (get_or s i 0 - 48) → None ≡ digits_at l at
 unfolding digits_read
-reading-over {s} {at} {v} {i} r h l k b =
-    let big : largest < value_from 0 (digits_of (drop at s)) =
-    omega (arith, reading-more r h l k, value_grows (v * 10 + (get_or s i 0 - 48)) (digits_of (drop (i + 1) s))) in
-    rw (lt-leb _ _ big)
+reading-over {s} {v} {i} l at e r h d b =
+    let big : largest < value_from 0 (digits_of s) =
+    omega (arith, reading-more r h d, value_grows (v * 10 + (get_or s i 0 - 48)) (digits_of (drop (i + 1) s))) in
+    rw (sym e, lt-leb _ _ big)
 
-reading-done : {s : List ℕ} {at v i : ℕ} → Reading s at v i → digits_of (drop i s) ≡ [] → Digits v i ≡ digits_at s at
+pub reading-done : {s : List ℕ} {v i : ℕ} (l : List ℕ) (at next : ℕ) → s ≡ drop at l → Reading s v i → digits_of (drop i s) ≡ []
+    → next ≡ at + i → Some (record { value = v; next = next }) ≡ digits_at l at
 unfolding digits_read value_from
-reading-done {s} {at} {v} {i} r e =
-    let w : value_from 0 (digits_of (drop at s)) ≡ v = r.value ∙ rw e in
-    let p : at + length (digits_of (drop at s)) ≡ i = r.place ∙ rw (e, add-zero) in
-    rw (w, p, le-leb _ _ r.small)
-
-pub reading-end : {s : List ℕ} {at v i : ℕ} → Reading s at v i → length s ≤ i → Digits v i ≡ digits_at s at
-reading-end {s} {i = i} r h = reading-done r (digits-end s i h)
-
-pub reading-low : {s : List ℕ} {at v i : ℕ} → Reading s at v i → i < length s → get_or s i 0 < 48 → Digits v i ≡ digits_at s at
-reading-low {s} {i = i} r h k = reading-done r (digits_low s i h k)
-
-pub reading-high : {s : List ℕ} {at v i : ℕ} → Reading s at v i → i < length s → 57 < get_or s i 0 → Digits v i ≡ digits_at s at
-reading-high {s} {i = i} r h k = reading-done r (digits-high s i h k)
+reading-done {s} {v} {i} l at next e r d n =
+    let w : value_from 0 (digits_of s) ≡ v = r.value ∙ rw d in
+    let p : length (digits_of s) ≡ i = r.place ∙ rw (d, add-zero) in
+    rw (sym e, w, p, n, le-leb _ _ r.small)

@@ -1,27 +1,30 @@
--- The line that begins at a place, byte by byte, as `line_end` goes. Assumes nothing.
-use Prim.Native.Nat.{ℕ, suc, ◌+◌, ◌≤◌, ◌<◌}
-use mathlib.Core.Path.{◌≡◌, ap, ◌∙◌}
-use mathlib.Core.Bool.{cond}
-use mathlib.Core.List.{List, [], ◌∷◌}
-use native.Mathlib.Numerals.{add-one}
-use lib.ListN.{length, drop, get_or, drop_of_length-le}
-use lib.Seq.{drop-cons}
-use lib.Dec.{eqb}
-use borrow.Author.Tests.{eq-eqb, ne_eqb}
+-- The first line of an input, as `line_length` finds it. Assumes nothing.
+use Rattle.std.proofs.Common.{◌≡◌, ℕ, ◌+◌, ◌≤◌, Bool, true, false, cond, eqb, List, [], ◌∷◌, length, refl, sym, arith}
+use Rattle.std.proofs.Common.{ltb, Some, None, unwrap_or}
+use Rattle.std.specs.List.{position, position_or_len}
+use Rattle.std.proofs.lemmas.List.Recursion.{is_position_or_len}
+use borrow.Author.Tests.{ltb-false}
+use Rattle.scope.proofs.Bools.{by_bool}
 use Rattle.text_fields.specs.Text.{first_line}
 
-line_step : (s : List ℕ) (i : ℕ) → i < length s → first_line (drop i s) ≡ cond (eqb (get_or s i 0) 10) []
-    (get_or s i 0 ∷ first_line (drop (i + 1) s))
+line-position : (s : List ℕ) → length (first_line s) ≡ position_or_len (λ c. eqb c 10) s
 unfolding first_line
-line_step s i h = rw (add-one, drop-cons s i 0)
+line-position = is_position_or_len (λ s. length (first_line s)) (λ c. eqb c 10) refl step
+  where
+    step : (c : ℕ) (s : List ℕ) → length (cond (eqb c 10) [] (c ∷ first_line s)) ≡ cond (eqb c 10) 0 (1 + length (first_line s))
+    step c s = by_bool (eqb c 10) (λ (e : eqb c 10 ≡ true). rw e refl) (λ (e : eqb c 10 ≡ false). rw e (omega arith))
 
-pub line-newline : (s : List ℕ) (i : ℕ) → i < length s → get_or s i 0 ≡ 10 → length (first_line (drop i s)) ≡ 0
-line-newline s i h e = ap length (line_step s i h) ∙ rw (eq-eqb _ _ e)
-
-pub line-more : (s : List ℕ) (i : ℕ) → i < length s → (get_or s i 0 ≡ 10 → ⊥) → length (first_line (drop i s)) ≡ suc
-    (length (first_line (drop (i + 1) s)))
-line-more s i h e = ap length (line_step s i h) ∙ rw (ne_eqb _ _ e)
-
-pub line-none : (s : List ℕ) (i : ℕ) → length s ≤ i → length (first_line (drop i s)) ≡ 0
+pub line-within : (s : List ℕ) → length (first_line s) ≤ length s
 unfolding first_line
-line-none s i h = rw (drop_of_length-le s h)
+line-within [] = omega arith
+line-within (c ∷ s) =
+    by_bool (eqb c 10) (λ (e : eqb c 10 ≡ true). rw e (omega arith))
+    (λ (e : eqb c 10 ≡ false). rw e (omega (arith, line-within s)))
+
+pub line-found : (s : List ℕ) → unwrap_or (position (λ c. eqb c 10) s) (length s) ≡ length (first_line s)
+line-found s = go (ltb (position_or_len (λ c. eqb c 10) s) (length s)) refl
+  where
+    go : (b : Bool) → ltb (position_or_len (λ c. eqb c 10) s) (length s) ≡ b
+        → unwrap_or (cond b (Some (position_or_len (λ c. eqb c 10) s)) None) (length s) ≡ length (first_line s)
+    go true e = sym (line-position s)
+    go false e = omega (arith, line-position s, line-within s, ltb-false _ _ e)

@@ -1,9 +1,7 @@
 -- Numbers in a line: decimal, no sign, no leading zero, within 32 bits (document 01, "The program").
 use Rattle.std.specs.Prelude.{ℕ, ◌+◌, ◌*◌, ◌-◌, Bool, ◌&&◌, not, cond, List, [], ◌∷◌, length, drop, get_or, ltb, leb, eqb}
-use Rattle.text_fields.specs.declared.number.DigitsRead.{DigitsRead}
-use Rattle.text_fields.specs.declared.number.DigitsRead.TheVariants.{Digits, TooLarge}
-use Rattle.text_fields.specs.declared.number.NumberRead.{NumberRead}
-use Rattle.text_fields.specs.declared.number.NumberRead.TheVariants.{Number, NoNumber}
+use Rattle.std.specs.Prelude.{Option, Some, None}
+use Rattle.text_fields.specs.declared.number.Number.{Number}
 
 -- the largest number of 32 bits
 abbrev pub largest : ℕ
@@ -30,20 +28,22 @@ value_of text = value_from 0 text
 abbrev pub leading_zero : List ℕ → Bool
 leading_zero text = ltb 1 (length text) && eqb (get_or text 0 0) 48
 
--- the number that digits are which begin at the place `at`, and the place after them
-unfoldable pub number_of : ℕ → List ℕ → NumberRead
+-- what digits are worth that begin at the place `at`, and the place after them
+abbrev pub spelled : ℕ → List ℕ → Number
+spelled at text = record { value = value_of text; next = at + length text }
+
+-- the number that they are
+unfoldable pub number_of : ℕ → List ℕ → Option Number
 number_of at text =
-    cond (ltb 0 (length text) && not (leading_zero text) && leb (value_of text) largest)
-    (Number (value_of text) (at + length text))
-    NoNumber
+    cond (ltb 0 (length text) && not (leading_zero text) && leb (value_of text) largest) (Some (spelled at text)) None
 
 -- the number at the place `at` of s: all the digits that stand there
-abbrev pub number_at : List ℕ → ℕ → NumberRead
+abbrev pub number_at : List ℕ → ℕ → Option Number
 number_at s at = number_of at (digits_of (drop at s))
 
 -- the digits alone, with zeros in front or none at all
-unfoldable pub digits_read : ℕ → List ℕ → DigitsRead
-digits_read at text = cond (leb (value_of text) largest) (Digits (value_of text) (at + length text)) TooLarge
+unfoldable pub digits_read : ℕ → List ℕ → Option Number
+digits_read at text = cond (leb (value_of text) largest) (Some (spelled at text)) None
 
-abbrev pub digits_at : List ℕ → ℕ → DigitsRead
+abbrev pub digits_at : List ℕ → ℕ → Option Number
 digits_at s at = digits_read at (digits_of (drop at s))

@@ -1,13 +1,12 @@
 -- The forms of a line, and what a line asks for (document 01, "The program").
-use Rattle.std.specs.Prelude.{ℕ, Bool, true, false, cond, List, [], ◌∷◌, ◌++◌, length, ltb}
+use Rattle.std.specs.Prelude.{ℕ, Bool, true, false, cond, List, [], ◌∷◌, ◌++◌, length, ltb, Option, Some, None}
 use Rattle.text_fields.specs.Text.{bytes}
 use Rattle.text_fields.specs.Read.{begin, word_then, fields_then, end_then}
 use Rattle.text_fields.specs.declared.read.Read.{Read}
-use Rattle.text_fields.specs.declared.read.Read.TheVariants.{Numbers, Other}
 use Rattle.text_lines.specs.declared.command.Op.{Op}
 use Rattle.text_lines.specs.declared.command.Op.TheVariants as op
 use Rattle.text_lines.specs.declared.command.Command.{Command}
-use Rattle.text_lines.specs.declared.command.Command.TheVariants.{Post, Amend, Drop, Find, Rank, Total, Worth, Fire, Tidy, List as Listing, Unreadable}
+use Rattle.text_lines.specs.declared.command.Command.TheVariants.{Post, Amend, Drop, Find, Rank, Total, Worth, Fire, Tidy, List as Listing}
 
 -- a form: the name that the line begins with, and the word before each number
 pub record Form : Type 0 where
@@ -66,33 +65,24 @@ asked op.Tidy a b c = Tidy c
 asked op.List a b c = Listing
 
 -- the command of a line that was read; of one that is of another form, what else it is
-abbrev pub made : Op → Read → Command → Command
-made o (Numbers a b c next) other = asked o a b c
-made o Other other = other
+abbrev pub made : Op → Option Read → Option Command → Option Command
+made o (Some r) other = Some (asked o r.a r.b r.c)
+made o None other = other
 
 -- the whole line is of the form
-abbrev pub form_read : List ℕ → Form → Read
+abbrev pub form_read : List ℕ → Form → Option Read
 form_read s f = end_then s (fields_then s f.words (word_then s f.name begin))
 
 -- the first of some forms that the line is of, and what it is if it is of none
-unfoldable pub tried : List Form → List ℕ → Command → Command
+unfoldable pub tried : List Form → List ℕ → Option Command → Option Command
 tried [] s other = other
 tried (f ∷ fs) s other = made f.op (form_read s f) (tried fs s other)
 
 -- what a line asks for: one over 80 bytes, or of no form, is unreadable
-unfoldable pub command_of : List ℕ → Command
-command_of s = cond (ltb 80 (length s)) Unreadable (tried forms s Unreadable)
+unfoldable pub command_of : List ℕ → Option Command
+command_of s = cond (ltb 80 (length s)) None (tried forms s None)
 
 -- a command that some line asks for
-unfoldable pub readable : Command → Bool
-readable (Post a b c) = true
-readable (Amend a b c) = true
-readable (Drop c) = true
-readable (Find c) = true
-readable (Rank c) = true
-readable (Total c) = true
-readable Worth = true
-readable (Fire a b c) = true
-readable (Tidy c) = true
-readable Listing = true
-readable Unreadable = false
+unfoldable pub readable : Option Command → Bool
+readable (Some x) = true
+readable None = false

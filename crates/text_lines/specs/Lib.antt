@@ -1,2 +1,3 @@
 -- The definitions that the contracts of `text_lines` cite.
 pub mod Form
+pub mod Shape

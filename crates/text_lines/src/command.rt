@@ -17,7 +17,7 @@ pub enum Op {
     List,
 }
 
-// The same with their numbers, in the order of their fields; or a line that is none of them.
+// The same with their numbers, in the order of their fields.
 #[derive(Clone, Copy)]
 pub enum Command {
     Post { key: u32, pieces: u32, state: u32 },
@@ -30,7 +30,6 @@ pub enum Command {
     Fire { rule: u32, holder: u32, side: u32 },
     Tidy { budget: u32 },
     List,
-    Unreadable,
 }
 
 // The command of a name, given the last three numbers of the line.

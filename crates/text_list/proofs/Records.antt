@@ -62,6 +62,11 @@ module _ {t : List ℕ} {c : ℕ} {list : List ℕ} {n : ℕ} (o : InOrder t c l
       let q : length slots ≤ i = omega (arith, e, listed-count o) in
       record { put = rw (take_all i slots q) at x.put; within = omega (arith, x.within, e, listed-few w o) }
 
+-- the part of a list that was written is all in order
+pub cut : {t : List ℕ} {c : ℕ} {list : List ℕ} {n : ℕ} → InOrder t c list n → InOrder t c (take n list) (length (take n list))
+cut {list = list} {n = n} o =
+    record { is = take_all (length (take n list)) (take n list) (omega arith) ∙ o.is; within = omega arith }
+
 -- more room does no harm
 pub wider : {a t b : List ℕ} {at p m n : ℕ} → PutIn a at t b p m → m ≤ n → PutIn a at t b p n
 wider x h = record { put = x.put; within = omega (arith, x.within) }

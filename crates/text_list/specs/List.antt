@@ -5,9 +5,9 @@ use Rattle.scope.specs.Sound.{tree_in}
 use Rattle.scope.specs.Answers.{accepted, refusal}
 use Rattle.scope.specs.Sums.{sound_gate, slots_in_order}
 use Rattle.scope.specs.declared.answer.Answer.{Answer}
-use Rattle.scope.specs.declared.answer.Gate.{Gate}
-use Rattle.scope.specs.declared.answer.Gate.TheVariants.{Shut, Open}
 use Rattle.text_print.specs.Line.{answer_line, record_line, answer_room, record_room}
+use Rattle.std.specs.Prelude.{Result, Ok, Err}
+use Rattle.scope.specs.declared.answer.Refusal.{Refusal}
 
 -- the lines of the records in some slots
 unfoldable pub record_lines : List ℕ → List ℕ → List ℕ
@@ -27,9 +27,9 @@ unfoldable pub listed : List ℕ → ℕ → List ℕ
 listed t c = answer_line (list_answer t) ++ all_lines t c
 
 -- an unsound table is refused as check refuses it
-abbrev pub listing : List ℕ → Gate → List ℕ
-listing t (Shut why) = answer_line (refusal why)
-listing t (Open c) = listed t c
+abbrev pub listing : List ℕ → Result ℕ Refusal → List ℕ
+listing t (Err why) = answer_line (refusal why)
+listing t (Ok c) = listed t c
 
 unfoldable pub list_text : List ℕ → List ℕ
 list_text t = listing t (sound_gate t true)

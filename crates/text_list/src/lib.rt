@@ -3,38 +3,38 @@
 
 ghost use Rattle.std.specs.Prelude.{◌≡◌, ◌+◌, ◌*◌, ◌≤◌, length};
 ghost use Rattle.spelling.specs.Ready.{Headed};
-ghost use Rattle.spelling.specs.Whole.{Whole};
 ghost use Rattle.in_order.specs.Listed.{InOrder};
 ghost use Rattle.text_print.specs.Put.{PutIn};
 ghost use Rattle.text_print.specs.Line.{answer_room, record_room};
 ghost use Rattle.text_list.specs.List.{all_lines, list_answer, listed, list_text, list_room};
 
-use scope::{Answer, Gate, Slots};
+use gate::SoundTable;
+use scope::{Answer, Slots};
 
-// Puts the lines of the records in the first n slots of a list: those of a sound table of c slots. c is only for the
-// contract.
-fn put_all(t: &[u32], c: usize, list: &[usize], n: usize, out: &mut [u8], at: usize) -> usize
-    requires { Whole t.now c × InOrder t.now c list.now n × (at + record_room * c ≤ length out.old) }
-    ensures { PutIn out.old at (all_lines t.now c) out.new result (record_room * c) }
+// Puts the lines of the records in some slots: all those of a sound table.
+fn put_all(table: SoundTable, slots: &[usize], out: &mut [u8], at: usize) -> usize
+    requires { InOrder table.words.now table.slots slots.now (length slots.now)
+        × (at + record_room * table.slots ≤ length out.old) }
+    ensures { PutIn out.old at (all_lines table.entry.words.now table.entry.slots) out.new result
+        (record_room * table.entry.slots) }
 {
-    let mut i = 0;
     let mut p = at;
-    while i < n {
-        let k = list[i];
-        p = text_print::put_record(out, p, k, words::slot_at(t, k));
-        i += 1;
+    for k in slots {
+        p = text_print::put_record(out, p, *k, words::slot_at(table.words, *k));
     }
     p
 }
 
 // Puts the lines of all records of a sound table: they are listed by one walk, and printed from the list.
-fn put_lines(t: &[u32], c: usize, out: &mut [u8], at: usize) -> usize
-    requires { Whole t.now c × (at + record_room * c ≤ length out.old) }
-    ensures { PutIn out.old at (all_lines t.now c) out.new result (record_room * c) }
+#[tactic(auto, using(gate::proofs::Tables::table_whole))]
+fn put_lines(table: SoundTable, out: &mut [u8], at: usize) -> usize
+    requires { at + record_room * table.slots ≤ length out.old }
+    ensures { PutIn out.old at (all_lines table.entry.words.now table.entry.slots) out.new result
+        (record_room * table.entry.slots) }
 {
     let mut list = [0usize; Slots::MOST];
-    let n = in_order::order_in(t, c, &mut list);
-    put_all(t, c, &list, n, out, at)
+    let n = in_order::order_in(table.words, table.slots, &mut list);
+    put_all(table, &list[..n], out, at)
 }
 
 // What list answers: the count and the root.
@@ -42,19 +42,19 @@ fn list_answer(t: &[u32]) -> Answer
     requires { Headed t.now }
     ensures { result ≡ list_answer t.now }
 {
-    let count = words::size(words::records(t));
-    let root = words::size(words::root(t));
-    gate::accept(words::long(words::change(t)), count, root, 0)
+    let count = u64::from(words::records(t));
+    let root = u64::from(words::root(t));
+    gate::accept(u64::from(words::change(t)), count, root, 0)
 }
 
 // Puts all that list prints of a sound table.
-fn put_listed(t: &[u32], c: usize, out: &mut [u8], at: usize) -> usize
-    requires { Whole t.now c × (at + (answer_room + record_room * c) ≤ length out.old) }
-    ensures { PutIn out.old at (listed t.now c) out.new result
-        (answer_room + record_room * c) }
+fn put_listed(table: SoundTable, out: &mut [u8], at: usize) -> usize
+    requires { at + (answer_room + record_room * table.slots) ≤ length out.old }
+    ensures { PutIn out.old at (listed table.entry.words.now table.entry.slots) out.new result
+        (answer_room + record_room * table.entry.slots) }
 {
-    let p = text_print::put_answer(out, at, list_answer(t));
-    put_lines(t, c, out, p)
+    let p = text_print::put_answer(out, at, list_answer(table.words));
+    put_lines(table, out, p)
 }
 
 // Puts what list prints: the place after it.
@@ -64,7 +64,7 @@ pub fn put_list(t: &[u32], out: &mut [u8], at: usize) -> usize
         (list_room (length t.now)) }
 {
     match sound::enter_sound(t, true) {
-        Gate::Shut(why) => text_print::put_answer(out, at, gate::refuse(why)),
-        Gate::Open(c) => put_listed(t, c, out, at),
+        Err(why) => text_print::put_answer(out, at, gate::refuse(why)),
+        Ok(table) => put_listed(table, out, at),
     }
 }

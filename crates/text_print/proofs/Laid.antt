@@ -1,12 +1,10 @@
 -- Texts put one after the other. Assumes nothing.
-use Prim.Native.Nat.{ℕ, suc, ◌+◌, ◌≤◌, ◌<◌}
+use Prim.Native.Nat.{ℕ, suc, ◌+◌}
 use mathlib.Core.Path.{◌≡◌, refl, sym, ap, ◌∙◌}
 use mathlib.Core.List.{List, [], ◌∷◌, ◌++◌, append-nil, append_assoc}
 use native.Mathlib.Omega.{arith}
 use native.Mathlib.Nat.{add-zero}
-use native.Mathlib.Numerals.{add-one}
-use lib.ListN.{length, drop, set, get_or, length-append, drop_of_length-le}
-use lib.Seq.{drop-cons}
+use lib.ListN.{length, set, length-append}
 use Rattle.text_fields.specs.Decimal.{field, fields}
 use Rattle.scope.specs.declared.slot.Slot.{Slot}
 use Rattle.text_print.specs.Put.{laid, Put, PutIn}
@@ -39,18 +37,6 @@ put_byte l at c = record { holds = refl; place = refl }
 pub put-more : {old text new : List ℕ} {at next : ℕ} (c : ℕ) → Put old at text new next
     → Put old at (text ++ (c ∷ [])) (set new next c) (next + 1)
 put-more {new = new} {next = next} c x = put_then x (put_byte new next c)
-
--- a text byte by byte: what is left of it, laid from its place on
-pub laid-step : (l text : List ℕ) (at i : ℕ) → i < length text
-    → laid l (at + i) (drop i text) ≡ laid (set l (at + i) (get_or text i 0)) (at + (i + 1)) (drop (i + 1) text)
-unfolding laid
-laid-step l text at i h =
-    let e : at + (i + 1) ≡ at + i + 1 = omega arith in
-    rw (e, add-one i, drop-cons text i 0)
-
-pub laid_end : (l text : List ℕ) (at i : ℕ) → length text ≤ i → laid l at (drop i text) ≡ l
-unfolding laid
-laid_end l text at i h = rw (drop_of_length-le text h)
 
 -- texts with their room
 pub both-put : {a b c t u : List ℕ} {at p q m n : ℕ} → PutIn a at t b p m → PutIn b p u c q n → PutIn a at (t ++ u) c q (m + n)

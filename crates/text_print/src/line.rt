@@ -20,25 +20,25 @@ pub fn put_answer(out: &mut [u8], at: usize, a: Answer) -> usize
 }
 
 // Puts what a record holds, and its slot.
-fn put_start(out: &mut [u8], at: usize, key: u32, pieces: u32, state: u32, slot: usize) -> usize
+fn put_start(out: &mut [u8], at: usize, slot: usize, s: Slot) -> usize
     requires { at + start_room ≤ length out.old }
-    ensures { PutIn out.old at (record_start key pieces state slot) out.new result start_room }
+    ensures { PutIn out.old at (record_start s.key s.pieces s.state slot) out.new result start_room }
 {
-    let p = put_field(out, at, b"key=", key as u64);
-    let p = put_field(out, p, b" pieces=", pieces as u64);
-    let p = put_field(out, p, b" state=", state as u64);
+    let p = put_field(out, at, b"key=", s.key as u64);
+    let p = put_field(out, p, b" pieces=", s.pieces as u64);
+    let p = put_field(out, p, b" state=", s.state as u64);
     put_field(out, p, b" slot=", slot as u64)
 }
 
 // Puts its links and registers, and ends the line.
-fn put_end(out: &mut [u8], at: usize, left: u32, right: u32, lefth: u32, righth: u32) -> usize
+fn put_end(out: &mut [u8], at: usize, s: Slot) -> usize
     requires { at + end_room ≤ length out.old }
-    ensures { PutIn out.old at (record_end left right lefth righth) out.new result end_room }
+    ensures { PutIn out.old at (record_end s.left s.right s.lefth s.righth) out.new result end_room }
 {
-    let p = put_field(out, at, b" left=", left as u64);
-    let p = put_field(out, p, b" right=", right as u64);
-    let p = put_field(out, p, b" lefth=", lefth as u64);
-    let p = put_field(out, p, b" righth=", righth as u64);
+    let p = put_field(out, at, b" left=", s.left as u64);
+    let p = put_field(out, p, b" right=", s.right as u64);
+    let p = put_field(out, p, b" lefth=", s.lefth as u64);
+    let p = put_field(out, p, b" righth=", s.righth as u64);
     put_text(out, p, b"\n")
 }
 
@@ -47,6 +47,6 @@ pub fn put_record(out: &mut [u8], at: usize, slot: usize, s: Slot) -> usize
     requires { at + record_room ≤ length out.old }
     ensures { PutIn out.old at (record_line slot s) out.new result record_room }
 {
-    let p = put_start(out, at, s.key, s.pieces, s.state, slot);
-    put_end(out, p, s.left, s.right, s.lefth, s.righth)
+    let p = put_start(out, at, slot, s);
+    put_end(out, p, s)
 }

@@ -9,7 +9,7 @@ use lib.Dec.{lit<}
 use borrow.Author.Tests.{lt-ltb, le-leb, ne_eqb}
 use Rattle.text_fields.specs.Number.{largest, digits_of, value_from, leading_zero, number_of, number_at}
 use Rattle.text_fields.specs.Decimal.{decimal}
-use Rattle.text_fields.specs.declared.number.NumberRead.TheVariants.{Number}
+use Rattle.std.specs.Prelude.{Some}
 use Rattle.text_fields.proofs.Decimal.{decimal-ind, decimal-small}
 
 -- a printed number is all digits
@@ -66,7 +66,7 @@ no-leading-zero (suc n) h =
 
 -- the decimal text of n, with no digit after it, is the number n
 pub number-back : (s : List ℕ) (at n : ℕ) (rest : List ℕ) → drop at s ≡ decimal n ++ rest → n ≤ largest → digits_of rest ≡ []
-    → number_at s at ≡ Number n (at + length (decimal n))
+    → number_at s at ≡ Some (record { value = n; next = at + length (decimal n) })
 unfolding number_of Led AllDigits
 number-back s at n rest e h d =
     let b : n < 10 ^ 20 = omega arith in

@@ -11,8 +11,7 @@ use Rattle.scope.proofs.Bools.{and_l, and_r}
 use Rattle.text_fields.specs.Text.{starts_with}
 use Rattle.text_fields.specs.Decimal.{decimal, field, fields}
 use Rattle.text_fields.specs.Number.{largest, is_digit, digits_of}
-use Rattle.text_fields.specs.Read.{word_then, number_then, field_then, fields_then}
-use Rattle.text_fields.specs.declared.read.Read.TheVariants.{Numbers}
+use Rattle.text_fields.specs.Read.{numbers, word_then, number_then, field_then, fields_then}
 use Rattle.text_readings.proofs.Back.{number-back}
 use Rattle.text_readings.proofs.Told.{NumbersTold, none, more, after_numbers, spaced, all_spaced, drop-on}
 
@@ -22,12 +21,12 @@ starts-word [] rest = refl
 starts-word (c ∷ w) rest = rw (eq-eqb c c refl, starts-word w rest)
 
 pub word_back : (s : List ℕ) (at : ℕ) (w rest : List ℕ) (a b c : ℕ) → drop at s ≡ w ++ rest
-    → word_then s w (Numbers a b c at) ≡ Numbers a b c (at + length w)
+    → word_then s w (numbers a b c at) ≡ numbers a b c (at + length w)
 unfolding word_then
 word_back s at w rest a b c e = rw (e, starts-word w rest)
 
 field_back : (s : List ℕ) (at : ℕ) (w : List ℕ) (n : ℕ) (rest : List ℕ) (a b c : ℕ) → drop at s ≡ field w n ++ rest
-    → n ≤ largest → digits_of rest ≡ [] → field_then s w (Numbers a b c at) ≡ Numbers b c n (at + length (field w n))
+    → n ≤ largest → digits_of rest ≡ [] → field_then s w (numbers a b c at) ≡ numbers b c n (at + length (field w n))
 unfolding number_then
 field_back s at w n rest a b c e h d =
     let f = e ∙ append_assoc w (decimal n) rest in
@@ -51,7 +50,7 @@ fields-head rest p (more {w} {ws} {n} {ns} h t) d = go w (and_l (spaced w) (all_
 
 pub fields_back : {ws : List (List ℕ)} {ns : List ℕ} (s : List ℕ) (at : ℕ) (rest : List ℕ) (a b c : ℕ)
     → all_spaced ws ≡ true → NumbersTold ws ns → drop at s ≡ fields ws ns ++ rest → digits_of rest ≡ []
-    → fields_then s ws (Numbers a b c at) ≡ after_numbers a b c ns (at + length (fields ws ns))
+    → fields_then s ws (numbers a b c at) ≡ after_numbers a b c ns (at + length (fields ws ns))
 unfolding fields_then fields after_numbers all_spaced
 fields_back s at rest a b c p none e d = rw add-zero
 fields_back s at rest a b c p (more {w} {ws} {n} {ns} h t) e d =

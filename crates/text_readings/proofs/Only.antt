@@ -9,9 +9,10 @@ use lib.ListN.{length, drop}
 use lib.Dec.{ltb, leb, eqb}
 use borrow.Author.Tests.{leb-true, ltb-true, lt-ltb, eqb-false}
 use Rattle.scope.proofs.Bools.{and_l, and_r, not-true, never}
-use Rattle.text_fields.specs.Number.{largest, is_digit, digits_of, value_from, leading_zero, number_of, number_at}
+use Rattle.text_fields.specs.Number.{largest, is_digit, digits_of, value_from, leading_zero, spelled, number_of, number_at}
 use Rattle.text_fields.specs.Decimal.{decimal}
-use Rattle.text_fields.specs.declared.number.NumberRead.TheVariants.{Number, NoNumber}
+use Rattle.std.specs.Prelude.{Some, None}
+use Rattle.text_fields.specs.declared.number.Number.{Number}
 use Rattle.text_fields.proofs.Digits.{value_grows}
 use Rattle.text_fields.proofs.Decimal.{decimal-small, decimal_step}
 
@@ -87,26 +88,25 @@ text-only (c ∷ l) h z b = go (is_digit c) refl h z b
     go false e h z b = absurd (omega arith)
 
 -- a number that is read is its decimal text, and the place after it follows the text
-pub number-only : (s : List ℕ) (at v i : ℕ) → Number v i ≡ number_at s at →
-    (v ≤ largest) × (digits_of (drop at s) ≡ decimal v) × (i ≡ at + length (decimal v))
+pub number-only : (s : List ℕ) (at : ℕ) (n : Number) → Some n ≡ number_at s at →
+    (n.value ≤ largest) × (digits_of (drop at s) ≡ decimal n.value) × (n.next ≡ at + length (decimal n.value))
 unfolding number_of
-number-only s at v i e = go (digits_of (drop at s)) (text-only (drop at s)) e
+number-only s at n e = go (digits_of (drop at s)) (text-only (drop at s)) e
   where
     go : (t : List ℕ) → (0 < length t → leading_zero t ≡ false → value_from 0 t < 10 ^ 20 → t ≡ decimal (value_from 0 t))
-        → Number v i ≡ cond (ltb 0 (length t) && not (leading_zero t) && leb (value_from 0 t) largest)
-        (Number (value_from 0 t) (at + length t)) NoNumber
-        → (v ≤ largest) × (t ≡ decimal v) × (i ≡ at + length (decimal v))
+        → Some n ≡ cond (ltb 0 (length t) && not (leading_zero t) && leb (value_from 0 t) largest) (Some (spelled at t)) None
+        → (n.value ≤ largest) × (t ≡ decimal n.value) × (n.next ≡ at + length (decimal n.value))
     go t only e = pick (ltb 0 (length t) && not (leading_zero t) && leb (value_from 0 t) largest) refl e
       where
         pick : (b : Bool) → (ltb 0 (length t) && not (leading_zero t) && leb (value_from 0 t) largest) ≡ b
-            → Number v i ≡ cond b (Number (value_from 0 t) (at + length t)) NoNumber
-            → (v ≤ largest) × (t ≡ decimal v) × (i ≡ at + length (decimal v))
+            → Some n ≡ cond b (Some (spelled at t)) None
+            → (n.value ≤ largest) × (t ≡ decimal n.value) × (n.next ≡ at + length (decimal n.value))
         pick false q e = never cc
         pick true q e =
             let d = both (ltb 0 (length t) && not (leading_zero t)) (leb (value_from 0 t) largest) q in
             let f = both (ltb 0 (length t)) (not (leading_zero t)) d.0 in
-            let w : value_from 0 t ≡ v = cc in
-            let p : at + length t ≡ i = cc in
+            let r : n ≡ spelled at t = cc in
             let small = leb-true (value_from 0 t) largest d.1 in
-            let x : t ≡ decimal v = only (ltb-true 0 (length t) f.0) (not-true (leading_zero t) f.1) (omega arith) ∙ ap decimal w in
-            (omega (arith, w, small), x, sym p ∙ ap (λ (u : List ℕ). at + length u) x)
+            let x : t ≡ decimal (value_from 0 t) =
+            only (ltb-true 0 (length t) f.0) (not-true (leading_zero t) f.1) (omega arith) in
+            rw r (small, x, ap (λ (u : List ℕ). at + length u) x)

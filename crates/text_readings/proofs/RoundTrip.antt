@@ -14,14 +14,13 @@ use Rattle.scope.proofs.Bools.{and_l, and_r, never}
 use Rattle.text_fields.specs.Text.{starts_with}
 use Rattle.text_fields.specs.Decimal.{decimal, field, fields}
 use Rattle.text_fields.specs.Number.{largest, digits_of}
-use Rattle.text_fields.specs.Read.{begin, word_then, fields_then, end_then}
+use Rattle.text_fields.specs.Read.{numbers, begin, word_then, fields_then, end_then}
 use Rattle.text_lines.specs.Form.{Form, form_of, forms, asked, made, form_read, tried, command_of}
 use Rattle.text_readings.specs.Printed.{line_as, line_of}
 use Rattle.text_fields.specs.declared.read.Read.{Read}
-use Rattle.text_fields.specs.declared.read.Read.TheVariants.{Numbers, Other}
 use Rattle.text_lines.specs.declared.command.Op.{Op}
 use Rattle.text_lines.specs.declared.command.Command.{Command}
-use Rattle.text_lines.specs.declared.command.Command.TheVariants.{Unreadable}
+use Rattle.std.specs.Prelude.{Option, Some, None}
 use Rattle.text_fields.proofs.Decimal.{decimal-short}
 use Rattle.text_readings.proofs.Told.{NumbersTold, none as told_none, more, after_numbers, all_spaced, other-stays}
 use Rattle.text_readings.proofs.FieldsBack.{word_back, fields_back}
@@ -60,10 +59,10 @@ line-back : (f : Form) {ns : List ℕ} → all_spaced f.words ≡ true → Numbe
     → form_read (line_as f ns) f ≡ after_numbers 0 0 0 ns (length (line_as f ns))
 line-back f {ns} p t =
     let s = line_as f ns in
-    let w : word_then s f.name begin ≡ Numbers 0 0 0 (length f.name) = word_back s 0 f.name
+    let w : word_then s f.name begin ≡ numbers 0 0 0 (length f.name) = word_back s 0 f.name
     (fields f.words ns) 0 0 0 refl ∙ rw zero-add in
     let r = fields_back s (length f.name) [] 0 0 0 p t (line-rest f ns) no-digits in
-    ap (λ (x : Read). end_then s (fields_then s f.words x)) w
+    ap (λ (x : Option Read). end_then s (fields_then s f.words x)) w
     ∙ ap (end_then s) (r ∙ ap (after_numbers 0 0 0 ns) (sym (length-append f.name (fields f.words ns))))
     ∙ after-end s 0 0 0 ns
 
@@ -79,13 +78,13 @@ starts_apart (c ∷ w) (d ∷ u) x e = go (eqb d c) e (starts_apart w u x)
     go true q ih = ih q
     go false q ih = refl
 
-form-apart : (f : Form) (n x : List ℕ) → differ f.name n ≡ true → form_read (n ++ x) f ≡ Other
+form-apart : (f : Form) (n x : List ℕ) → differ f.name n ≡ true → form_read (n ++ x) f ≡ None
 unfolding word_then end_then
 form-apart f n x e =
     rw (starts_apart f.name n x e) (ap (end_then (n ++ x)) (other-stays (n ++ x) f.words))
 
 -- what was read makes its command, whatever else there is
-after-made : (o : Op) (a b c : ℕ) (ns : List ℕ) (q : ℕ) (x y : Command) → made o (after_numbers a b c ns q) x ≡ made o
+after-made : (o : Op) (a b c : ℕ) (ns : List ℕ) (q : ℕ) (x y : Option Command) → made o (after_numbers a b c ns q) x ≡ made o
     (after_numbers a b c ns q) y
 unfolding after_numbers
 after-made o a b c [] q x y = refl
@@ -93,20 +92,20 @@ after-made o a b c (n ∷ ns) q x y = after-made o b c n ns q x y
 
 -- of the forms, the first whose name it can have reads it
 first-tried : (fs : List Form) (n x : List ℕ) (g : Form) (ns : List ℕ) (q : ℕ) → first_of n fs ≡ some g
-    → form_read (n ++ x) g ≡ after_numbers 0 0 0 ns q → tried fs (n ++ x) Unreadable ≡ made g.op (after_numbers 0 0 0 ns q) Unreadable
+    → form_read (n ++ x) g ≡ after_numbers 0 0 0 ns q → tried fs (n ++ x) None ≡ made g.op (after_numbers 0 0 0 ns q) None
 unfolding first_of tried
 first-tried [] n x g ns q e r = never cc
 first-tried (f ∷ fs) n x g ns q e r = go (differ f.name n) refl e (first-tried fs n x g ns q)
   where
     go : (t : Bool) → differ f.name n ≡ t → cond t (first_of n fs) (some f) ≡ some g
-        → (first_of n fs ≡ some g → form_read (n ++ x) g ≡ after_numbers 0 0 0 ns q → tried fs (n ++ x) Unreadable ≡ made
-        g.op (after_numbers 0 0 0 ns q) Unreadable)
-        → made f.op (form_read (n ++ x) f) (tried fs (n ++ x) Unreadable) ≡ made g.op (after_numbers 0 0 0 ns q) Unreadable
+        → (first_of n fs ≡ some g → form_read (n ++ x) g ≡ after_numbers 0 0 0 ns q → tried fs (n ++ x) None ≡ made
+        g.op (after_numbers 0 0 0 ns q) None)
+        → made f.op (form_read (n ++ x) f) (tried fs (n ++ x) None) ≡ made g.op (after_numbers 0 0 0 ns q) None
     go true t e ih = rw (form-apart f n x t) (ih e r)
-    go false t e ih = let z : f ≡ g = cc in rw (z, r) (after-made g.op 0 0 0 ns q (tried fs (n ++ x) Unreadable) Unreadable)
+    go false t e ih = let z : f ≡ g = cc in rw (z, r) (after-made g.op 0 0 0 ns q (tried fs (n ++ x) None) None)
 
 -- the printed line of a command is read back
-pub read-printed : (o : Op) (a b c : ℕ) → a ≤ largest → b ≤ largest → c ≤ largest → command_of (line_of o a b c) ≡ asked o a b c
+pub read-printed : (o : Op) (a b c : ℕ) → a ≤ largest → b ≤ largest → c ≤ largest → command_of (line_of o a b c) ≡ Some (asked o a b c)
 unfolding command_of line_of form_fits
 read-printed o a b c ha hb hc =
     let f = form_of o in
@@ -127,5 +126,5 @@ read-printed o a b c ha hb hc =
     rw (le-ltb 80 (length (line_as f ns)) l)
     (first-tried forms f.name (fields f.words ns) f ns (length (line_as f ns)) p.first
     (line-back f (and_l (all_spaced f.words) few rest) t)
-    ∙ ap (λ (x : Op). made x (after_numbers 0 0 0 ns (length (line_as f ns))) Unreadable) p.op
+    ∙ ap (λ (x : Op). made x (after_numbers 0 0 0 ns (length (line_as f ns))) None) p.op
     ∙ p.asks a b c (length (line_as f ns)))

@@ -9,7 +9,7 @@ use lib.Dec.{leb, eqb}
 use Rattle.text_lines.specs.Form.{Form, form_of, forms, asked, made, readable}
 use Rattle.text_lines.specs.declared.command.Op.{Op}
 use Rattle.text_lines.specs.declared.command.Op.TheVariants.{Post, Amend, Drop, Find, Rank, Total, Worth, Fire, Tidy, List as Listing}
-use Rattle.text_lines.specs.declared.command.Command.TheVariants.{Unreadable}
+use Rattle.std.specs.Prelude.{Some, None}
 use Rattle.text_readings.proofs.Told.{after_numbers, spaced, all_spaced}
 
 -- w and u differ at some byte of both
@@ -37,8 +37,8 @@ pub record ProperForm (o : Op) : Type 0 where
   pub first : first_of (form_of o).name forms ≡ some (form_of o)
   pub fit : form_fits (form_of o) ≡ true
   pub asks : (a b c q : ℕ)
-      → made o (after_numbers 0 0 0 (drop (3 - length (form_of o).words) (a ∷ b ∷ c ∷ [])) q) Unreadable ≡ asked o a b c
-  pub read : (a b c : ℕ) → readable (asked o a b c) ≡ true
+      → made o (after_numbers 0 0 0 (drop (3 - length (form_of o).words) (a ∷ b ∷ c ∷ [])) q) None ≡ Some (asked o a b c)
+  pub read : (a b c : ℕ) → readable (Some (asked o a b c)) ≡ true
 
 pub proper : (o : Op) → ProperForm o
 unfolding form_of differ first_of room form_fits spaced all_spaced after_numbers readable

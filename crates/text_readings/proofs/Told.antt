@@ -6,9 +6,9 @@ use mathlib.Core.List.{List, [], ◌∷◌, ◌++◌}
 use lib.ListN.{length, drop}
 use lib.Seq.{drop-drop, drop-append_seam}
 use Rattle.text_fields.specs.Number.{largest, is_digit}
-use Rattle.text_fields.specs.Read.{word_then, number_then, fields_then}
+use Rattle.std.specs.Prelude.{Option, None}
+use Rattle.text_fields.specs.Read.{numbers, word_then, number_then, fields_then}
 use Rattle.text_fields.specs.declared.read.Read.{Read}
-use Rattle.text_fields.specs.declared.read.Read.TheVariants.{Numbers, Other}
 
 -- words, and as many numbers of 32 bits
 pub data NumbersTold : List (List ℕ) → List ℕ → Type 0 where
@@ -16,8 +16,8 @@ pub data NumbersTold : List (List ℕ) → List ℕ → Type 0 where
   more : {w : List ℕ} {ws : List (List ℕ)} {n : ℕ} {ns : List ℕ} → n ≤ largest → NumbersTold ws ns → NumbersTold (w ∷ ws) (n ∷ ns)
 
 -- what is known after some numbers more
-unfoldable pub after_numbers : ℕ → ℕ → ℕ → List ℕ → ℕ → Read
-after_numbers a b c [] at = Numbers a b c at
+unfoldable pub after_numbers : ℕ → ℕ → ℕ → List ℕ → ℕ → Option Read
+after_numbers a b c [] at = numbers a b c at
 after_numbers a b c (n ∷ ns) at = after_numbers b c n ns at
 
 -- words that begin with no digit
@@ -34,7 +34,7 @@ pub drop-on : (s : List ℕ) (at : ℕ) (u : List ℕ) {rest : List ℕ} → dro
 drop-on s at u {rest} e = sym (drop-drop (length u) at s) ∙ ap (drop (length u)) e ∙ drop-append_seam u rest
 
 -- a line of another form stays so
-pub other-stays : (s : List ℕ) (ws : List (List ℕ)) → fields_then s ws Other ≡ Other
+pub other-stays : (s : List ℕ) (ws : List (List ℕ)) → fields_then s ws None ≡ None
 unfolding fields_then word_then number_then
 other-stays s [] = refl
 other-stays s (w ∷ ws) = other-stays s ws

@@ -1,5 +1,5 @@
 -- The line of a command (document 01, "The program").
-use Rattle.std.specs.Prelude.{ℕ, ◌-◌, ◌≤◌, ◌≡◌, List, [], ◌∷◌, ◌++◌, length, drop}
+use Rattle.std.specs.Prelude.{ℕ, ◌-◌, ◌≤◌, ◌≡◌, List, [], ◌∷◌, ◌++◌, length, drop, Option, Some}
 use Rattle.text_fields.specs.Decimal.{fields}
 use Rattle.text_fields.specs.Number.{largest}
 use Rattle.text_lines.specs.Form.{Form, form_of, asked}
@@ -24,6 +24,6 @@ pub record Printed (s : List ℕ) : Type 0 where
   pub is : s ≡ line_of op a b c
 
 -- and that command is x
-pub record SaysCommand (s : List ℕ) (x : Command) : Type 0 where
+pub record SaysCommand (s : List ℕ) (x : Option Command) : Type 0 where
   pub line : Printed s
-  pub asks : x ≡ asked line.op line.a line.b line.c
+  pub asks : x ≡ Some (asked line.op line.a line.b line.c)

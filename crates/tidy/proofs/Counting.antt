@@ -5,15 +5,14 @@ use mathlib.Core.List.{List}
 use native.Mathlib.Omega.{arith}
 use native.Mathlib.Decide.{ℕ_discrete}
 use borrow.Author.Tests.{eq-eqb, ne_eqb}
-use Rattle.marks.specs.Marks.{bit_at}
-use Rattle.tidy_agenda.specs.Agenda.{Struck}
+use Rattle.marks.specs.Marks.{bit_at, Unmarked}
 
 -- among the first n slots
 unfoldable pub how_many : ℕ → List ℕ → ℕ
 how_many zero m = 0
 how_many (suc n) m = bit_at m n + how_many n m
 
-module _ {m : List ℕ} {k : ℕ} {m' : List ℕ} (s : Struck m k m') where
+module _ {m : List ℕ} {k : ℕ} {m' : List ℕ} (s : Unmarked m k m') where
   kept : (j : ℕ) → j < 4096 → (j ≡ k → ⊥) → bit_at m' j ≡ bit_at m j
   kept j h ne = rw (ne_eqb j k ne) at (s.bits j h)
 
@@ -37,6 +36,6 @@ module _ {m : List ℕ} {k : ℕ} {m' : List ℕ} (s : Struck m k m') where
       ]
 
 -- A SLOT THAT IS STRUCK is one less
-pub fewer : {m : List ℕ} {k : ℕ} {m' : List ℕ} → Struck m k m' → k < 4096 → bit_at m k ≡ 1
+pub fewer : {m : List ℕ} {k : ℕ} {m' : List ℕ} → Unmarked m k m' → k < 4096 → bit_at m k ≡ 1
     → how_many 4096 m' < how_many 4096 m
 fewer s h on = omega (arith, one_less s on 4096 (omega arith) h)

@@ -19,7 +19,8 @@ use Rattle.bridge.specs.Due.{Due}
 use Rattle.fire_aim.specs.Aimed.{NodesInside}
 use Rattle.fire_act.specs.Wrote.{Kept}
 use Rattle.fire_act.proofs.Acting.{acted}
-use Rattle.tidy_holders.specs.Holds.{Entries, noted}
+use Rattle.tidy_holders.specs.Holds.{noted}
+use Rattle.tidy_holders.specs.declared.entry.Holders.{Holders}
 use Rattle.tidy_holders.specs.Codes.{above_of}
 use Rattle.tidy_holders.specs.Away.{Unnoted}
 use Rattle.tidy_holders.proofs.Noting.Noted.{none-noted}
@@ -29,20 +30,21 @@ use Rattle.tidy_holders.proofs.Leaving.AsBefore.{as_before}
 use Rattle.tidy_sight.proofs.Unlisted.{may-not-be-due}
 use Rattle.tidy.specs.Reviewed.{SlotIn, Reviewed, looked, passed, Without, Around, NodesReviewed}
 use Rattle.tidy.specs.Firing.{MayAct, Acted, ToFire, AfterFiring}
+use Rattle.tidy.specs.declared.notes.Notes.{Notes}
 use Rattle.tidy.proofs.Reviewing.{one-looked, as-without}
 
 -- the action of a rule of this kind, and the links noted
-module _ {t h : List ℕ} {c : ℕ} {r : Rule} {x : Nodes} (p : MayAct t c h r x) {t' : List ℕ} where
+module _ {t : List ℕ} {h : Holders} {c : ℕ} {r : Rule} {x : Nodes} (p : MayAct t c r x) {t' : List ℕ} where
   pub acted-alone : r.kind ≡ Propagate → Kept c (written t (writes (propagated r.side x))) t' → Acted t h c r x t' h
   acted-alone e a = record {
     words = acted p.sized p.within Propagate e a;
-    entries = none-noted p.moving e;
+    links = none-noted h.links x r.side e;
   }
 
-  pub acted-noted : (k : Kind) → r.kind ≡ k → Kept c (written t (writes (action k r.side x))) t' → {h' : List ℕ}
-      → Entries (noted (action k r.side x) h) h'
+  pub acted-noted : (k : Kind) → r.kind ≡ k → Kept c (written t (writes (action k r.side x))) t' → {h' : Holders}
+      → h'.links ≡ noted (action k r.side x) h.links
       → Acted t h c r x t' h'
-  acted-noted k e a n = record { words = acted p.sized p.within k e a; entries = rw e n }
+  acted-noted k e a n = record { words = acted p.sized p.within k e a; links = rw e n }
 
 low : (t : List ℕ) (c : ℕ) (r : Rule) (v : ℕ) → due_at t c r v ≡ true
     → highest_at r (nodes_at t r (link_to t c v) v) ≤ 65535
@@ -53,7 +55,10 @@ two-nodes : (t : List ℕ) (r : Rule) (v c : ℕ) → has_third r.kind ≡ false
     → (nodes_at t r (link_to t c v) v).w ≡ (nodes_at t r (link_to t c v) v).u
 two-nodes t r v c e = rw e refl
 
-module _ {t : List ℕ} {c : ℕ} {h m : List ℕ} {r : Rule} {x : Nodes} (f : ToFire t c h m r x) where
+module _ {t : List ℕ} {c : ℕ} {n : Notes} {r : Rule} {x : Nodes} (f : ToFire t c n r x) where
+  abbrev h : List ℕ
+  h = n.holders.links
+
   abbrev d : Due t c f.slot f.number
   d = f.due
 
@@ -72,11 +77,11 @@ module _ {t : List ℕ} {c : ℕ} {h m : List ℕ} {r : Rule} {x : Nodes} (f : T
       })
 
   -- its action may be written and noted
-  pub may-act : MayAct t c h r x
+  pub may-act : MayAct t c r x
   may-act = record {
     sized = f.running.whole.sized;
     within = record { nodes = inside; height = rw (f.rule, f.nodes) (low t c d.rule f.slot d.due) };
-    moving = rw (f.rule, f.nodes) (may-move f.running.whole d f.running.holds);
+    moving = rw (f.rule, f.nodes) (may-move f.running.whole d);
   }
 
   -- the two slots above
@@ -102,35 +107,32 @@ module _ {t : List ℕ} {c : ℕ} {h m : List ℕ} {r : Rule} {x : Nodes} (f : T
           (rw (q, one) k.first, rw (q, one) k.most)
 
       -- they and the nodes are then looked at
-      module _ {t' h' : List ℕ} (g : Acted t h c r x t' h') where
-        pub nodes-around : Around t' c m r.kind x
+      module _ {t' : List ℕ} {h' : Holders} (g : Acted t n.holders c r x t' h') where
+        pub nodes-around : Around t' c r.kind x
         nodes-around = record {
           sized = g.words.sized;
-          agenda = f.running.listed.agenda;
           nodes = inside;
           third = λ e. rw f.nodes (two-nodes t d.rule f.slot c (rw f.rule at e));
         }
 
-        module _ {m₁ : List ℕ} (k : NodesReviewed t' c m x m₁) where
-          pub at_above : SlotIn t' c m₁ a
+        module _ {m₁ : List ℕ} (k : NodesReviewed t' c n.agenda x m₁) where
+          pub at_above : SlotIn t' c a
           at_above = record {
             sized = g.words.sized;
-            agenda = k.agenda;
             first = above-slot.0;
             most = above-slot.1;
           }
 
           module _ {m₂ : List ℕ} (k₂ : Reviewed t' c m₁ a m₂) where
-            pub at-upper : SlotIn t' c m₂ b
+            pub at-upper : SlotIn t' c b
             at-upper = record {
               sized = g.words.sized;
-              agenda = k₂.agenda;
               first = upper-slot.0;
               most = upper-slot.1;
             }
 
             module _ {m₃ : List ℕ} (k₃ : Reviewed t' c m₂ b m₃) where
-              around : Without t' c (Unnoted h x) m m₃
+              around : Without t' c (Unnoted h x) n.agenda m₃
               around =
                   as-without (one-looked (one-looked k above-slot.0 k₂) upper-slot.0 k₃)
                   (λ j z. record {
@@ -142,27 +144,26 @@ module _ {t : List ℕ} {c : ℕ} {h m : List ℕ} {r : Rule} {x : Nodes} (f : T
               is-fired : t' ≡ fired_at t c f.slot f.number
               is-fired = rw (f.rule, f.nodes) at g.words.is ∙ sym (fired-is f.running.whole d)
 
-              still-none : (j : ℕ) → 1 ≤ j → j ≤ c → Unnoted h x j → (n : ℕ)
-                  → passes true t' c j n ≡ passes true t c j n
-              still-none j i l z n =
+              still-none : (j : ℕ) → 1 ≤ j → j ≤ c → Unnoted h x j → (k : ℕ)
+                  → passes true t' c j k ≡ passes true t c j k
+              still-none j i l z k =
                   rw is-fired
                   (as_before f.running.whole d j i l
-                  (away f.running.whole d f.running.holds j i l (rw f.nodes at z)) true n)
+                  (away f.running.whole d f.running.holds j i l (rw f.nodes at z)) true k)
 
-              pub fired-so : AfterFiring t c r x t' h' m₃
+              pub fired-so : AfterFiring t c r x t' (record { holders = h'; agenda = m₃ })
               fired-so = record {
                 is = g.words.is;
                 running = record {
                   whole = rw is-fired (whole_again f.running.whole d);
-                  holds = rw (is-fired, rw (f.rule, f.nodes) at g.entries.is)
-                      (holds-again f.running.whole d f.running.holds);
+                  holds = rw (is-fired, rw (f.rule, f.nodes) at g.links)
+                      (holds-again f.running.whole d f.running.holds n.holders.room);
                   listed = record {
-                    agenda = around.agenda;
                     zero = around.zero f.running.listed.zero;
                     unlisted = λ j i l e.
                         elim (around.unlisted j (omega (arith, f.running.whole.sized.most)) e) [
-                          | looked z ↦ λ n p q. may-not-be-due t' c j z n
-                          | passed z o ↦ λ n p q. still-none j i l z n ∙ f.running.listed.unlisted j i l o n p q
+                          | looked z ↦ λ k p q. may-not-be-due t' c j z k
+                          | passed z o ↦ λ k p q. still-none j i l z k ∙ f.running.listed.unlisted j i l o k p q
                         ];
                   };
                 };

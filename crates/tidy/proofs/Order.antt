@@ -5,20 +5,19 @@ use mathlib.Core.Bool.{Bool, true, false}
 use native.Mathlib.Omega.{arith}
 use native.Mathlib.Decide.{ℕ_discrete}
 use Rattle.scope.specs.Tidy.{rules_from, slots_from}
-use Rattle.scope.specs.declared.outcome.Next.{Next}
-use Rattle.scope.specs.declared.outcome.Next.TheVariants.{At, Nothing}
+use Rattle.std.specs.Prelude.{Option, Some, None}
 
 module _ (test : ℕ → ℕ → Bool) where
-  rules-none : (left v n : ℕ) (a : Next) → ((j : ℕ) → n ≤ j → j < n + left → test v j ≡ false)
+  rules-none : (left v n : ℕ) (a : Option (ℕ × ℕ)) → ((j : ℕ) → n ≤ j → j < n + left → test v j ≡ false)
       → rules_from test left v n a ≡ a
   unfolding rules_from
   rules-none zero v n a h = refl
   rules-none (suc left) v n a h =
       rw (h n (omega arith) (omega arith)) (rules-none left v (n + 1) a (λ j p q. h j (omega arith) (omega arith)))
 
-  rules-at : (left v n j : ℕ) (a : Next) → n ≤ j → j < n + left → ((i : ℕ) → n ≤ i → i < j → test v i ≡ false)
+  rules-at : (left v n j : ℕ) (a : Option (ℕ × ℕ)) → n ≤ j → j < n + left → ((i : ℕ) → n ≤ i → i < j → test v i ≡ false)
       → test v j ≡ true
-      → rules_from test left v n a ≡ At v j
+      → rules_from test left v n a ≡ Some (v, j)
   unfolding rules_from
   rules-at zero v n j a p q h e = absurd (omega arith)
   rules-at (suc left) v n j a p q h e =
@@ -32,7 +31,7 @@ module _ (test : ℕ → ℕ → Bool) where
   abbrev Fails : ℕ → Type 0
   Fails k = (n : ℕ) → 1 ≤ n → n ≤ 8 → test k n ≡ false
 
-  pub order-none : (left v : ℕ) → ((k : ℕ) → v ≤ k → k < v + left → Fails k) → slots_from test left v ≡ Nothing
+  pub order-none : (left v : ℕ) → ((k : ℕ) → v ≤ k → k < v + left → Fails k) → slots_from test left v ≡ None
   unfolding slots_from
   order-none zero v h = refl
   order-none (suc left) v h =
@@ -40,7 +39,7 @@ module _ (test : ℕ → ℕ → Bool) where
       ∙ order-none left (v + 1) (λ k p q. h k (omega arith) (omega arith))
 
   pub order-at : (left v k j : ℕ) → v ≤ k → k < v + left → ((i : ℕ) → v ≤ i → i < k → Fails i) → 1 ≤ j → j ≤ 8
-      → ((i : ℕ) → 1 ≤ i → i < j → test k i ≡ false) → test k j ≡ true → slots_from test left v ≡ At k j
+      → ((i : ℕ) → 1 ≤ i → i < j → test k i ≡ false) → test k j ≡ true → slots_from test left v ≡ Some (k, j)
   unfolding slots_from
   order-at zero v k j p q h a b g e = absurd (omega arith)
   order-at (suc left) v k j p q h a b g e =

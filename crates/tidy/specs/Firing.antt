@@ -9,22 +9,24 @@ use Rattle.spelling.specs.Ready.{Sized}
 use Rattle.bridge.specs.Due.{Due}
 use Rattle.fire_aim.specs.Aimed.{NodesWithin}
 use Rattle.fire_act.specs.Wrote.{Kept}
-use Rattle.tidy_holders.specs.Holds.{Entries, Moving, noted}
+use Rattle.tidy_holders.specs.Holds.{Moving, noted}
+use Rattle.tidy_holders.specs.declared.entry.Holders.{Holders}
 use Rattle.tidy.specs.Coming.{Running}
+use Rattle.tidy.specs.declared.notes.Notes.{Notes}
 
 -- the action of a rule may be written at its nodes, and its links noted
-pub record MayAct (t : List ℕ) (c : ℕ) (h : List ℕ) (r : Rule) (x : Nodes) : Type 0 where
+pub record MayAct (t : List ℕ) (c : ℕ) (r : Rule) (x : Nodes) : Type 0 where
   pub sized : Sized t c
   pub within : NodesWithin c r x
-  pub moving : Moving h x r.side
+  pub moving : Moving x r.side
 
-pub record Acted (t h : List ℕ) (c : ℕ) (r : Rule) (x : Nodes) (t' h' : List ℕ) : Type 0 where
+pub record Acted (t : List ℕ) (h : Holders) (c : ℕ) (r : Rule) (x : Nodes) (t' : List ℕ) (h' : Holders) : Type 0 where
   pub words : Kept c (written t (action_at r x)) t'
-  pub entries : Entries (noted (action r.kind r.side x) h) h'
+  pub links : h'.links ≡ noted (action r.kind r.side x) h.links
 
 -- rule r is due at a slot, and x are its nodes there
-pub record ToFire (t : List ℕ) (c : ℕ) (h m : List ℕ) (r : Rule) (x : Nodes) : Type 0 where
-  pub running : Running t c h m
+pub record ToFire (t : List ℕ) (c : ℕ) (n : Notes) (r : Rule) (x : Nodes) : Type 0 where
+  pub running : Running t c n
   pub slot : ℕ
   pub number : ℕ
   pub due : Due t c slot number
@@ -32,6 +34,6 @@ pub record ToFire (t : List ℕ) (c : ℕ) (h m : List ℕ) (r : Rule) (x : Node
   pub nodes : x ≡ nodes_at t due.rule (link_to t c slot) slot
 
 -- it was fired, and all is kept
-pub record AfterFiring (t : List ℕ) (c : ℕ) (r : Rule) (x : Nodes) (t' h' m' : List ℕ) : Type 0 where
+pub record AfterFiring (t : List ℕ) (c : ℕ) (r : Rule) (x : Nodes) (t' : List ℕ) (n' : Notes) : Type 0 where
   pub is : t' ≡ written t (action_at r x)
-  pub running : Running t' c h' m'
+  pub running : Running t' c n'

@@ -5,16 +5,14 @@ use Rattle.scope.specs.Fire.{has_third}
 use Rattle.scope.specs.declared.rule.Kind.{Kind}
 use Rattle.scope.specs.declared.outcome.Nodes.{Nodes}
 use Rattle.spelling.specs.Ready.{Sized}
-use Rattle.marks.specs.Marks.{bit_at}
+use Rattle.marks.specs.Marks.{bit_at, BitPut}
 use Rattle.fire_aim.specs.Aimed.{NodesInside}
-use Rattle.tidy_agenda.specs.Agenda.{Agenda, BitPut}
 use Rattle.tidy_sight.specs.MayBeDue.{may_be_due}
 use Rattle.tidy_holders.specs.Away.{NoNode}
 
--- slot k of a table of c slots, with an agenda
-pub record SlotIn (t : List ℕ) (c : ℕ) (m : List ℕ) (k : ℕ) : Type 0 where
+-- slot k of a table of c slots
+pub record SlotIn (t : List ℕ) (c k : ℕ) : Type 0 where
   pub sized : Sized t c
-  pub agenda : Agenda m
   pub first : 1 ≤ k
   pub most : k ≤ c
 
@@ -29,14 +27,12 @@ pub data Unlisted (t : List ℕ) (c : ℕ) (P : ℕ → Type 0) (m : List ℕ) (
 
 -- the slots without P were looked at
 pub record Without (t : List ℕ) (c : ℕ) (P : ℕ → Type 0) (m m' : List ℕ) : Type 0 where
-  pub agenda : Agenda m'
   pub zero : bit_at m 0 ≡ 0 → bit_at m' 0 ≡ 0
   pub unlisted : (k : ℕ) → k < 4096 → bit_at m' k ≡ 0 → Unlisted t c P m k
 
 -- the nodes of a firing; where its kind has no third, that is u
-pub record Around (t : List ℕ) (c : ℕ) (m : List ℕ) (kind : Kind) (x : Nodes) : Type 0 where
+pub record Around (t : List ℕ) (c : ℕ) (kind : Kind) (x : Nodes) : Type 0 where
   pub sized : Sized t c
-  pub agenda : Agenda m
   pub nodes : NodesInside c x
   pub third : has_third kind ≡ false → x.w ≡ x.u
 
@@ -45,6 +41,5 @@ NodesReviewed t c m x m' = Without t c (NoNode x) m m'
 
 -- every slot below `next` was looked at, and slot 0 is not listed
 pub record AllReviewed (t : List ℕ) (c : ℕ) (m : List ℕ) (next : ℕ) : Type 0 where
-  pub agenda : Agenda m
   pub zero : bit_at m 0 ≡ 0
   pub unlisted : (k : ℕ) → 1 ≤ k → k ≤ c → k < next → bit_at m k ≡ 0 → may_be_due t c (slot_at t k) ≡ false

@@ -2,6 +2,7 @@
 #![tactic(auto)]
 
 pub mod call;
+pub mod notes;
 pub mod review;
 pub mod run;
 pub mod scan;

@@ -1,22 +1,10 @@
 -- The slots at which a rule may be due, as bits. Assumes nothing: these are statements.
-use Rattle.std.specs.Prelude.{ℕ, ◌+◌, ◌/◌, ◌%◌, ◌^◌, ◌≤◌, ◌<◌, ◌≡◌, cond, List, length, get_or, eqb}
-use Rattle.marks.specs.Marks.{bit_at}
+use Rattle.std.specs.Prelude.{ℕ, ◌/◌, ◌%◌, ◌^◌, ◌<◌, ◌≡◌, cond, List, get_or, eqb, Option, Some, None}
+use Rattle.marks.specs.Marks.{bit_at, NoneMarked}
 
--- 64 words, and one above them that says in which of them a slot is listed
-pub record Agenda (m : List ℕ) : Type 0 where
-  pub room : length m ≡ 65
-  pub top : (i : ℕ) → i < 64 → bit_at m (4096 + i) ≡ cond (eqb (get_or m i 0) 0) 0 1
-
--- m' is m with y for the bit of slot k, and every other slot as it was
-pub record BitPut (y : ℕ) (m : List ℕ) (k : ℕ) (m' : List ℕ) : Type 0 where
-  pub agenda : Agenda m'
-  pub bits : (j : ℕ) → j < 4096 → bit_at m' j ≡ cond (eqb j k) y (bit_at m j)
-
-abbrev pub Listed : List ℕ → ℕ → List ℕ → Type 0
-Listed m k m' = BitPut 1 m k m'
-
-abbrev pub Struck : List ℕ → ℕ → List ℕ → Type 0
-Struck m k m' = BitPut 0 m k m'
+-- the word above says in which of the 64 words a slot is listed
+pub record AboveTells (m : List ℕ) (above : ℕ) : Type 0 where
+  pub bit : (i : ℕ) → i < 64 → above / 2 ^ i % 2 ≡ cond (eqb (get_or m i 0) 0) 0 1
 
 -- bit b of w, a number of d bits, is on, and none below it
 pub record LowestBit (w d b : ℕ) : Type 0 where
@@ -24,8 +12,12 @@ pub record LowestBit (w d b : ℕ) : Type 0 where
   pub on : w / 2 ^ b % 2 ≡ 1
   pub off : (j : ℕ) → j < b → w / 2 ^ j % 2 ≡ 0
 
--- r is the lowest slot that is listed, or 4,096
-pub record Lowest (m : List ℕ) (r : ℕ) : Type 0 where
-  pub most : r ≤ 4096
-  pub listed : r < 4096 → bit_at m r ≡ 1
+-- r is the lowest slot that is listed
+pub record LowestSlot (m : List ℕ) (r : ℕ) : Type 0 where
+  pub inside : r < 4096
+  pub listed : bit_at m r ≡ 1
   pub below : (j : ℕ) → j < r → bit_at m j ≡ 0
+
+abbrev pub Lowest : List ℕ → Option ℕ → Type 0
+Lowest m (Some r) = LowestSlot m r
+Lowest m None = NoneMarked m

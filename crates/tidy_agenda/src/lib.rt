@@ -2,60 +2,76 @@
 // word in which a slot is listed.
 #![tactic(auto)]
 
-ghost use Rattle.std.specs.Prelude.{◌≡◌, ◌<◌, get_or};
-ghost use Rattle.tidy_agenda.specs.Agenda.{Agenda, Listed, Struck, LowestBit, Lowest};
+ghost use Rattle.std.specs.Prelude.{◌≡◌, ◌<◌, ℕ, List};
+ghost use Rattle.marks.specs.Marks.{NoneMarked, Marked, Unmarked};
+ghost use Rattle.tidy_agenda.specs.Agenda.{AboveTells, LowestBit, Lowest};
 
-// One more than the largest slot that has a bit.
-pub const SLOTS: usize = 4096;
+use marks::Marks;
+use std::marker::Model;
 
-// Where the word above the others stands.
-pub const TOP: usize = 64;
-
-// Lists slot k.
-pub fn list(m: &mut [u64; 65], k: usize)
-    requires { Agenda m.old × (k < 4096) }
-    ensures { Listed m.old k m.new }
-{
-    let at = k / 64;
-    let b = k % 64;
-    let w = m[at];
-    m[at] = w | (1 << b);
-    let top = m[TOP];
-    m[TOP] = top | (1 << at);
+// The slots that are listed, and the word above.
+#[derive(Drop)]
+pub struct Agenda {
+    pub slots: Marks,
+    pub above: u64,
 }
 
-// Strikes slot k, whether it is listed or not.
-pub fn strike(m: &mut [u64; 65], k: usize)
-    requires { Agenda m.old × (k < 4096) }
-    ensures { Struck m.old k m.new }
-{
-    let at = k / 64;
-    let b = k % 64;
-    let w = (m[at] | (1 << b)) ^ (1 << b);
-    m[at] = w;
-    if w == 0 {
-        let top = m[TOP];
-        m[TOP] = (top | (1 << at)) ^ (1 << at);
+// A contract sees the marks of the slots.
+impl Model for Agenda {
+    ghost Value = { List ℕ };
+
+    ghost view = { λ a. a.slots };
+
+    ghost invariant = { λ a. AboveTells a.slots a.above };
+}
+
+impl Agenda {
+    // No slot is listed.
+    pub fn new() -> Self
+        ensures { NoneMarked result }
+    {
+        Agenda {
+            slots: Marks::new(),
+            above: 0,
+        }
+    }
+
+    // Lists slot k.
+    pub fn list(&mut self, k: usize)
+        requires { k < 4096 }
+        ensures { Marked self.old k self.new }
+    {
+        self.slots.mark(k);
+        self.above = marks::with_bit(self.above, k / 64);
+    }
+
+    // Strikes slot k, whether it is listed or not.
+    pub fn strike(&mut self, k: usize)
+        requires { k < 4096 }
+        ensures { Unmarked self.old k self.new }
+    {
+        let left = self.slots.unmark(k);
+        if left == 0 {
+            self.above = marks::without_bit(self.above, k / 64);
+        }
+    }
+
+    // The lowest slot that is listed.
+    pub fn lowest(&self) -> Option<usize>
+        ensures { Lowest self.now result }
+    {
+        if self.above == 0 {
+            return None;
+        }
+        let at = lowest_in(self.above);
+        Some(64 * at + lowest_in(self.slots.word(at)))
     }
 }
 
 // The lowest bit that is on in a word.
-pub fn lowest_in(m: &[u64; 65], at: usize) -> usize
-    requires { (at < 65) × (get_or m.now at 0 ≡ 0 → ⊥) }
-    ensures { LowestBit (get_or m.now at 0) 64 result }
+pub fn lowest_in(word: u64) -> usize
+    requires { word ≡ 0 → ⊥ }
+    ensures { LowestBit word 64 result }
 {
-    let word = &m[at];
-    u64::trailing_zeros(*word) as usize
-}
-
-// The lowest slot that is listed, or 4,096 for none.
-pub fn lowest(m: &[u64; 65]) -> usize
-    requires { Agenda m.now }
-    ensures { Lowest m.now result }
-{
-    if m[TOP] == 0 {
-        return SLOTS;
-    }
-    let at = lowest_in(m, TOP);
-    64 * at + lowest_in(m, at)
+    word.trailing_zeros() as usize
 }

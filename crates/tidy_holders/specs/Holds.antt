@@ -1,5 +1,5 @@
 -- What is noted of a table's links, and what is asked of a note. Assumes nothing: these are statements and definitions.
-use Rattle.std.specs.Prelude.{ℕ, ◌+◌, ◌*◌, ◌≤◌, ◌≡◌, List, [], ◌∷◌, length, get_or, set}
+use Rattle.std.specs.Prelude.{ℕ, ◌+◌, ◌*◌, ◌≤◌, ◌≡◌, List, [], ◌∷◌, get_or, set}
 use Rattle.scope.specs.Numbers.{other}
 use Rattle.scope.specs.Table.{slot_at, son, InTable}
 use Rattle.scope.specs.declared.side.Side.{Side}
@@ -15,23 +15,10 @@ pub record CodeIn (c q : ℕ) : Type 0 where
 
 -- EVERY SLOT HANGS WHERE IT IS NOTED, and so at one link only
 pub record AllNoted (t : List ℕ) (c : ℕ) (h : List ℕ) : Type 0 where
-  pub room : length h ≡ 4096
   pub is : (q : ℕ) → CodeIn c q → 1 ≤ held_at t q → get_or h (held_at t q) 0 ≡ q
 
--- the entries h are as said, one for each slot
-pub record Entries (said h : List ℕ) : Type 0 where
-  pub is : h ≡ said
-  pub room : length h ≡ 4096
-
--- a link of `holder` is to be noted for slot k
-pub record Noting (h : List ℕ) (k holder : ℕ) : Type 0 where
-  pub room : length h ≡ 4096
-  pub slot : k ≤ 4095
-  pub most : holder ≤ 4095
-
--- those of the two sons of slot k
-pub record Sons (t h : List ℕ) (k : ℕ) : Type 0 where
-  pub room : length h ≡ 4096
+-- the links of the two sons of slot k are to be noted
+pub record Sons (t : List ℕ) (k : ℕ) : Type 0 where
   pub table : InTable t k
   pub most : k ≤ 4095
   pub left : (slot_at t k).left ≤ 4095
@@ -51,8 +38,7 @@ noted [] h = h
 noted (e ∷ es) h = noted es (noted_part e.part e.slot e.what h)
 
 -- what a firing at these nodes asks: every slot that it moves or hangs something at has a number
-pub record Moving (h : List ℕ) (n : Nodes) (near : Side) : Type 0 where
-  pub room : length h ≡ 4096
+pub record Moving (n : Nodes) (near : Side) : Type 0 where
   pub holder : n.link.holder ≤ 4095
   pub v_most : n.v ≤ 4095
   pub u_most : n.u ≤ 4095

@@ -9,20 +9,19 @@ use lib.Dec.{eqb}
 use Rattle.scope.proofs.Bools.{and_l, and_r, by_bool}
 use Rattle.scope.specs.Numbers.{other, rule_of}
 use Rattle.scope.specs.Table.{slot_at, son, InTable}
-use Rattle.scope.specs.Rules.{seen, guard_at, highest_at}
+use Rattle.scope.specs.Rules.{guard_at, highest_at}
 use Rattle.scope.specs.Fire.{has_third}
 use Rattle.scope.specs.Tidy.{nodes_at, holds_at, due_at, passes}
 use Rattle.scope.specs.declared.slot.Slot.{Slot}
 use Rattle.scope.specs.declared.side.Side.{Side}
 use Rattle.scope.specs.declared.side.Side.TheVariants.{Left, Right}
 use Rattle.scope.specs.declared.side.Link.{Link}
-use Rattle.scope.specs.declared.rule.Pair.{Pair}
 use Rattle.scope.specs.declared.rule.Rule.{Rule}
-use Rattle.scope.specs.declared.rule.RuleIs.TheVariants as rule-is
 use Rattle.spelling.proofs.Laws.{in_table}
 use Rattle.tidy_sight.specs.MayBeDue.{names}
-use Rattle.tidy_sight.specs.Sight.{sight_of, on_side, allowed, due_seen, Present}
+use Rattle.tidy_sight.specs.Sight.{sight_of, on_side, due_seen, Present}
 use Rattle.tidy_sight.specs.declared.sight.Sight.{Sight}
+use Rattle.std.specs.Prelude.{Option, Some}
 
 -- a number that names a slot of c is one
 pub named : (c k : ℕ) → names c k ≡ true → (1 ≤ k) × (k ≤ c)
@@ -45,29 +44,9 @@ either : (t : List ℕ) (c : ℕ) (x : Slot) (s : Side)
 either t c x Left = refl
 either t c x Right = refl
 
--- a side that was read
-pub sight-read : (t : List ℕ) (c : ℕ) (x : Slot) (s : Side) {k w : ℕ} {v u : Pair} {y : Slot} {o : Side} → k ≡ son x s
-    → v ≡ seen s x → (not (eqb x.state 0) && names c k) ≡ true → y ≡ slot_at t k
-    → u ≡ seen s y → o ≡ other s → w ≡ son y o
-    → record { there = true; v = v; u = u; w = w } ≡ sight_of t c x s
-unfolding sight_of
-sight-read t c x s ek ev n ey eu eo ew = let m = rw ek at n in rw (ew, eo, eu, ey, ev, ek, m) refl
-
--- a rule with a third node, and one without, tested by what was read
-module _ (t : List ℕ) (c : ℕ) (r : Rule) (x : Sight) (there : x.there ≡ true) where
-  pub due-third : has_third r.kind ≡ true → names c x.w ≡ true → {y : Slot} {p : Pair} {b : Bool}
-      → y ≡ slot_at t x.w → p ≡ seen r.side y → b ≡ allowed r.kind x.v x.u p → b ≡ due_seen t c r x
-  unfolding due_seen
-  due-third h n ey ep eb = rw (eb, ep, ey, there, h, n) refl
-
-  pub due-two : has_third r.kind ≡ false → {b : Bool}
-      → b ≡ allowed r.kind x.v x.u x.u → b ≡ due_seen t c r x
-  unfolding due_seen
-  due-two h eb = rw (eb, there, h) refl
-
 -- THE TEST BY WHAT IS SEEN is the one that is defined
-pub seen-passes : (t : List ℕ) (c v n : ℕ) {r : Rule} {x : Slot} {left right y : Sight} {b : Bool}
-    → rule_of n ≡ rule-is.Known r → x ≡ slot_at t v → left ≡ sight_of t c x Left → right ≡ sight_of t c x Right
+pub seen-passes : (t : List ℕ) (c v n : ℕ) {r : Rule} {x : Slot} {left right y : Option Sight} {b : Bool}
+    → rule_of n ≡ Some r → x ≡ slot_at t v → left ≡ sight_of t c x Left → right ≡ sight_of t c x Right
     → y ≡ on_side r.side left right → b ≡ due_seen t c r y
     → b ≡ passes true t c v n
 unfolding passes

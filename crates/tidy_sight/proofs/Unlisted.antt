@@ -16,9 +16,8 @@ use Rattle.scope.specs.declared.rule.Pair.{Pair}
 use Rattle.scope.specs.declared.rule.Kind.{Kind}
 use Rattle.scope.specs.declared.rule.Kind.TheVariants.{Propagate, Lean, Even, Double}
 use Rattle.scope.specs.declared.rule.Rule.{Rule}
-use Rattle.scope.specs.declared.rule.RuleIs.{RuleIs}
-use Rattle.scope.specs.declared.rule.RuleIs.TheVariants as rule-is
 use Rattle.tidy_sight.specs.MayBeDue.{names, side_may_be_due, may_be_due}
+use Rattle.std.specs.Prelude.{Option, Some, None}
 
 -- a slot that does not lean, above a register that is up to date
 no_guard : (k : Kind) (v u w : Pair) → heavy v ≡ false → not (reliable v.near u) ≡ false → guard k v u w ≡ false
@@ -58,10 +57,10 @@ module _ (t : List ℕ) (c v : ℕ) where
       off-side r (on-side (or_l _ _ q) (or_r (side_may_be_due t c (slot_at t v) Left) _ q) r.side))
       (off-state r)
 
-  off-by : may_be_due t c (slot_at t v) ≡ false → (r : RuleIs) → by_rule true t c v r ≡ false
+  off-by : may_be_due t c (slot_at t v) ≡ false → (r : Option Rule) → by_rule true t c v r ≡ false
   unfolding due_at
-  off-by e rule-is.Unknown = refl
-  off-by e (rule-is.Known r) = rw (off-rule e r) refl
+  off-by e None = refl
+  off-by e (Some r) = rw (off-rule e r) refl
 
   -- WHERE NO RULE MAY BE DUE none is
   pub may-not-be-due : may_be_due t c (slot_at t v) ≡ false → (n : ℕ) → passes true t c v n ≡ false

@@ -1,5 +1,5 @@
 -- What is seen on a side of a slot, and the test of a rule by it. Assumes nothing: these are definitions.
-use Rattle.std.specs.Prelude.{ℕ, ◌≡◌, Bool, true, false, cond, not, ◌&&◌, List, leb, eqb}
+use Rattle.std.specs.Prelude.{ℕ, ◌≡◌, Bool, true, false, cond, not, ◌&&◌, List, Option, Some, None, leb, eqb}
 use Rattle.scope.specs.Numbers.{other, root_link, most_height}
 use Rattle.scope.specs.Table.{slot_at, son}
 use Rattle.scope.specs.Rules.{seen, guard, highest}
@@ -15,15 +15,15 @@ use Rattle.spelling.specs.Ready.{Sized}
 use Rattle.tidy_sight.specs.MayBeDue.{names}
 use Rattle.tidy_sight.specs.declared.sight.Sight.{Sight}
 
--- on side s of a slot x: its registers, and those and the other son of the son that is there
-unfoldable pub sight_of : List ℕ → ℕ → Slot → Side → Sight
+-- on side s of a slot x: its registers, and those and the other son of the son that is there; nothing where x is free or has no son there
+unfoldable pub sight_of : List ℕ → ℕ → Slot → Side → Option Sight
 sight_of t c x s =
     let y = slot_at t (son x s) in
     cond (not (eqb x.state 0) && names c (son x s))
-    (record { there = true; v = seen s x; u = seen s y; w = son y (other s) })
-    (record { there = false; v = seen s x; u = seen s x; w = 0 })
+    (Some (record { v = seen s x; u = seen s y; w = son y (other s) }))
+    None
 
-abbrev pub on_side : Side → Sight → Sight → Sight
+abbrev pub on_side : Side → Option Sight → Option Sight → Option Sight
 on_side Left left right = left
 on_side Right left right = right
 
@@ -32,13 +32,12 @@ abbrev pub allowed : Kind → Pair → Pair → Pair → Bool
 allowed k v u w = guard k v u w && leb (highest k v u w) most_height
 
 -- a rule is due by what is seen on its side
-unfoldable pub due_seen : List ℕ → ℕ → Rule → Sight → Bool
-due_seen t c r x =
-    cond x.there
-    (cond (has_third r.kind)
+unfoldable pub due_seen : List ℕ → ℕ → Rule → Option Sight → Bool
+due_seen t c r None = false
+due_seen t c r (Some x) =
+    cond (has_third r.kind)
     (cond (names c x.w) (allowed r.kind x.v x.u (seen r.side (slot_at t x.w))) false)
-    (allowed r.kind x.v x.u x.u))
-    false
+    (allowed r.kind x.v x.u x.u)
 
 -- x is slot v, and all nodes of a rule there are slots of the table
 pub record Present (t : List ℕ) (c : ℕ) (r : Rule) (v : ℕ) (x : Slot) : Type 0 where

@@ -10,7 +10,7 @@ pub fn side_may_be_due(t: &[u32], c: usize, s: Slot, side: Side) -> bool
     requires { Sized t.now c }
     ensures { result ≡ side_may_be_due t.now c s side }
 {
-    let u = words::son(s, side);
+    let u = words::son(s, side) as usize;
     if (u != 0) & (u <= c) {
         let v = fire_guards::seen(s, side);
         let su = words::slot_at(t, u);

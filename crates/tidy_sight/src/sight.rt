@@ -6,43 +6,33 @@ ghost use Rattle.tidy_sight.specs.Sight.{sight_of, on_side, allowed, due_seen, P
 
 use scope::{Height, Kind, Link, Nodes, Pair, Rule, Side, Slot, State};
 
-// A side of slot v: whether it has a son u there, the registers of both, and u's son on the other side.
+// A side of slot v where it has a son u: the registers of both, and u's son on the other side.
 #[derive(Clone, Copy)]
 pub struct Sight {
-    pub there: bool,
     pub v: Pair,
     pub u: Pair,
     pub w: usize,
 }
 
-pub fn look(t: &[u32], c: usize, s: Slot, side: Side) -> Sight
+#[tactic(auto, unfolding(crate::specs::Sight::sight_of))]
+pub fn look(t: &[u32], c: usize, s: Slot, side: Side) -> Option<Sight>
     requires { Sized t.now c }
     ensures { result ≡ sight_of t.now c s side }
 {
-    let k = words::son(s, side);
-    let v = fire_guards::seen(s, side);
+    let k = words::son(s, side) as usize;
     if (s.state != State::FREE) & ((k != 0) & (k <= c)) {
+        let v = fire_guards::seen(s, side);
         let su = words::slot_at(t, k);
         let u = fire_guards::seen(su, side);
-        let w = words::son(su, side.other());
-        Sight {
-            there: true,
-            v,
-            u,
-            w,
-        }
+        let w = words::son(su, side.other()) as usize;
+        Some(Sight { v, u, w })
     } else {
-        Sight {
-            there: false,
-            v,
-            u: v,
-            w: 0,
-        }
+        None
     }
 }
 
-// One of two sides.
-pub fn on_side(side: Side, left: Sight, right: Sight) -> Sight
+// What was seen on one of two sides.
+pub fn on_side(side: Side, left: Option<Sight>, right: Option<Sight>) -> Option<Sight>
     ensures { result ≡ on_side side left right }
 {
     match side {
@@ -59,25 +49,21 @@ pub fn allowed(kind: Kind, v: Pair, u: Pair, w: Pair) -> bool
 }
 
 // A rule is due, by what is seen on its side.
-pub fn due(t: &[u32], c: usize, r: Rule, x: Sight) -> bool
+#[tactic(auto, unfolding(crate::specs::Sight::due_seen))]
+pub fn due(t: &[u32], c: usize, r: Rule, x: Option<Sight>) -> bool
     requires { Sized t.now c }
     ensures { result ≡ due_seen t.now c r x }
 {
+    let Some(Sight { v, u, w }) = x else {
+        return false;
+    };
     let kind = r.kind;
     let side = r.side;
-    let v = x.v;
-    let u = x.u;
-    let w = x.w;
-    if x.there {
-        if fire_aim::has_third(kind) {
-            if (w != 0) & (w <= c) {
-                allowed(kind, v, u, fire_guards::seen(words::slot_at(t, w), side))
-            } else {
-                false
-            }
-        } else {
-            allowed(kind, v, u, u)
-        }
+    if !fire_aim::has_third(kind) {
+        return allowed(kind, v, u, u);
+    }
+    if (w != 0) & (w <= c) {
+        allowed(kind, v, u, fire_guards::seen(words::slot_at(t, w), side))
     } else {
         false
     }
@@ -90,10 +76,10 @@ pub fn nodes(t: &[u32], c: usize, r: Rule, link: Link, v: usize, sv: Slot) -> No
 {
     let kind = r.kind;
     let side = r.side;
-    let u = words::son(sv, side);
+    let u = words::son(sv, side) as usize;
     let su = words::slot_at(t, u);
     if fire_aim::has_third(kind) {
-        let w = words::son(su, side.other());
+        let w = words::son(su, side.other()) as usize;
         let sw = words::slot_at(t, w);
         Nodes {
             link,

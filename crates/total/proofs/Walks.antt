@@ -1,6 +1,6 @@
 -- What each sum is at a slot, from those of its two sides; and how large it can be. Assumes nothing.
-use Prim.Native.Nat.{ℕ, ◌+◌, ◌-◌, ◌*◌, ◌≤◌}
-use mathlib.Core.Path.{◌≡◌, sym, ◌∙◌}
+use Prim.Native.Nat.{ℕ, ◌+◌, ◌*◌, ◌≤◌, max}
+use mathlib.Core.Path.{◌≡◌, sym}
 use mathlib.Core.Bool.{Bool, true, false, not, cond, ◌&&◌}
 use mathlib.Core.List.{List}
 use native.Mathlib.Omega.{arith}
@@ -10,15 +10,14 @@ use Rattle.scope.proofs.Bools.{and_l, and_r}
 use Rattle.scope.specs.Numbers.{most_slots}
 use Rattle.scope.specs.Table.{slot_at}
 use Rattle.scope.specs.Fit.{state_ok, pieces_ok, fit_slot}
-use Rattle.scope.specs.Tree.{Tree, leaf, node, size, true_height, over}
+use Rattle.scope.specs.Tree.{Tree, leaf, node, size, true_height}
 use Rattle.scope.specs.Sound.{Spells}
 use Rattle.scope.specs.Sums.{total_of}
 use Rattle.scope.specs.declared.slot.Slot.{Slot}
 use Rattle.tree.proofs.Rest.Height.{height-size}
 use Rattle.fork.specs.declared.Fork.{Fork}
-use Rattle.fork.specs.Hangs.{Says}
-use Rattle.total.specs.Adding.{Adding, counted_of, total_on}
-use Rattle.fork.proofs.Down.{Forked, sizes, said_at, says-leaf, says-fork}
+use Rattle.fork.specs.Hangs.{Forked, tree_at}
+use Rattle.total.specs.Adding.{counted_of}
 
 -- a fit slot's pieces
 pieces-most : (c : ℕ) (s : Slot) → fit_slot c s ≡ true → s.pieces ≤ 1000000
@@ -45,53 +44,34 @@ total-most t c K x (node d a b l r) p =
       total-most t c K (slot_at t x).right r p.right,
     )
 
-module _ {t : List ℕ} {more x : ℕ} {f : Fork} (d : Forked t more x f) where
-  module _ {a b : ℕ} (sa : Says t f.left true_height a) (sb : Says t f.right true_height b) where
+module _ {t : List ℕ} {more x : ℕ} {f : Fork} (d : Forked t more x f) {a b : ℕ} where
+  module _ (ea : a ≡ true_height d.on_left.tree) (eb : b ≡ true_height d.on_right.tree) where
     pub heights-few : (a ≤ most_slots) × (b ≤ most_slots)
-    heights-few =
+    heights-few = omega (arith, height-size d.on_left.tree, height-size d.on_right.tree, d.few, d.most)
+
+    pub height-here : {r : ℕ} → r ≡ 1 + max a b → r ≡ true_height (tree_at d)
+    unfolding true_height
+    height-here e = omega arith
+
+  -- the pieces on the two sides of a slot, and at the slot, which counts `own`
+  module _ (K : ℕ) (ea : a ≡ total_of K d.on_left.tree) (eb : b ≡ total_of K d.on_right.tree) where
+    pub sides-few : a + b ≤ 1000000 * more
+    sides-few =
+        let l = d.on_left in
+        let r = d.on_right in
         omega (
           arith,
-          height-size d.on_left.tree,
-          height-size d.on_right.tree,
           d.few,
-          d.most,
-          said_at d.on_left true_height sa,
-          said_at d.on_right true_height sb,
+          total-most t l.slots K f.left l.tree l.reached,
+          total-most t r.slots K f.right r.tree r.reached,
         )
 
-    pub height-here : {r : ℕ} → r ≡ over a b → Says t x true_height r
-    unfolding true_height
-    height-here e =
-        let l = said_at d.on_left true_height sa in
-        let r = said_at d.on_right true_height sb in
-        says-fork true_height d (cc (e, l, r))
+    module _ {own : ℕ} (eo : own ≡ counted_of K f.slot.key f.slot.pieces) where
+      pub own-few : own ≤ 1000000
+      own-few = omega (arith, eo, own-most (leb f.slot.key K) f.slot.pieces, pieces-most d.c f.slot d.fit)
 
--- nothing is added at the empty link
-pub nothing-added : (t : List ℕ) (x sum K : ℕ) → x ≡ 0 → Says t x (total_on sum K) sum
-unfolding total_of
-nothing-added t x sum K e c T p = omega arith ∙ says-leaf t x (total_on sum K) e c T p
-
--- adding up the pieces at a slot, which counts `own`, and on its two sides
-module _ {t : List ℕ} {more x sum : ℕ} {f : Fork} (g : Adding t more x sum) (d : Forked t more x f) (K : ℕ) {own : ℕ}
-    (eo : own ≡ counted_of K f.slot.key f.slot.pieces) where
-  own-few : own ≤ 1000000
-  own-few = omega (arith, eo, own-most (leb f.slot.key K) f.slot.pieces, pieces-most d.c f.slot d.fit)
-
-  pub adding-left : Adding t (more - 1) f.left (sum + own)
-  adding-left = record { hangs = d.on_left; room = omega (arith, g.room, sizes g.hangs d, own-few) }
-
-  module _ {a : ℕ} (sa : Says t f.left (total_on (sum + own) K) a) where
-    on_left : a ≡ sum + own + total_of K d.on_left.tree
-    on_left = said_at d.on_left (total_on (sum + own) K) sa
-
-    pub adding-right : Adding t (more - 1) f.right a
-    adding-right =
-        let l = d.on_left in
-        let few = total-most t l.slots K f.left l.tree l.reached in
-        record { hangs = d.on_right; room = omega (arith, g.room, sizes g.hangs d, own-few, on_left, few) }
-
-    pub total_here : {r : ℕ} → Says t f.right (total_on a K) r → Says t x (total_on sum K) r
-    unfolding total_of
-    total_here sr =
-        let is : own ≡ counted_of K (slot_at t x).key (slot_at t x).pieces = rw (sym d.slot) eo in
-        says-fork (total_on sum K) d (omega (arith, is, on_left, said_at d.on_right (total_on a K) sr))
+      pub pieces-here : {r : ℕ} → r ≡ a + b + own → r ≡ total_of K (tree_at d)
+      unfolding total_of
+      pieces-here e =
+          let is : own ≡ counted_of K (slot_at t x).key (slot_at t x).pieces = rw (sym d.slot) eo in
+          omega (arith, is)

@@ -1,2 +1,2 @@
--- What the walks of the sums ask of a table and promise.
+-- What the sums promise.
 pub mod Adding

@@ -1,67 +1,61 @@
-// Sums over a sound table: the true height and the total, each by a walk from the root to both sides of every slot.
-// A walk is two functions, at a slot and at a link, which may be empty. It starts at the root's slot: entered there,
-// the test of a link is compiled into the slot above it, and an empty link costs no call.
+// Sums over a sound table: the true height and the total, each by the walk of both sides of every slot (`fork`).
 #![tactic(auto)]
 
-ghost use Rattle.std.specs.Prelude.{◌≡◌, ◌+◌, ◌≤◌, ◌<◌};
-ghost use Rattle.scope.specs.Numbers.{most_slots};
-ghost use Rattle.scope.specs.Tree.{over, true_height};
+ghost use Rattle.std.specs.Prelude.{◌≡◌};
+ghost use Rattle.scope.specs.Tree.{true_height};
 ghost use Rattle.scope.specs.Sound.{tree_in};
 ghost use Rattle.scope.specs.Sums.{total_of};
 ghost use Rattle.scope.specs.Calls.{Total, Promise};
-ghost use Rattle.spelling.specs.Whole.{Whole};
-ghost use Rattle.fork.specs.Hangs.{FewHang, Says};
-ghost use Rattle.total.specs.Adding.{height_answer, Adding, counted_of, total_on};
+ghost use Rattle.total.specs.Adding.{height_answer, counted_of};
 
-use scope::{Answer, Gate, Slot};
+use fork::{Fold, Fork};
+use gate::SoundTable;
+use scope::{Answer, Slot};
 
-// One more than the larger of two heights.
-pub fn over(a: usize, b: usize) -> usize
-    requires { (a ≤ most_slots) × (b ≤ most_slots) }
-    ensures { result ≡ over a b }
-{
-    if a < b { b + 1 } else { a + 1 }
-}
+// The true height of a tree.
+#[derive(Clone, Copy)]
+pub struct Heights;
 
-// The true height of slot x and what hangs below it, where that is at most `more` slots.
-#[cycle(height_at_height_under)]
-pub fn height_at(t: &[u32], more: usize, x: usize) -> usize
-    requires { (1 ≤ x) × FewHang t.now more x }
-    ensures { Says t.now x true_height result }
-{
-    let f = fork::fork_at(t, x);
-    let less = more - 1;
-    let a = height_under(t, less, f.left);
-    let b = height_under(t, less, f.right);
-    over(a, b)
-}
+impl Fold for Heights {
+    type Down = ();
 
-// The same at a link, which may be empty.
-#[cycle(height_at_height_under)]
-pub fn height_under(t: &[u32], more: usize, x: usize) -> usize
-    requires { FewHang t.now more x }
-    ensures { Says t.now x true_height result }
-{
-    if x == 0 { 0 } else { height_at(t, more, x) }
+    type Up = usize;
+
+    ghost says = { λ it down T. true_height T };
+
+    ghost bears = { λ it more down. Unit };
+
+    ghost handed = { λ it register. tt };
+
+    ghost borne = { λ it t more x f down d any. (tt, tt) };
+
+    fn nothing(self) -> usize {
+        0
+    }
+
+    fn hand(self, _register: u32) {}
+
+    fn join(self, _f: Fork, _down: (), a: usize, b: usize) -> usize {
+        1 + a.max(b)
+    }
 }
 
 // The same over a sound table.
-pub fn height_in(t: &[u32], c: usize) -> usize
-    requires { Whole t.now c }
-    ensures { result ≡ true_height (tree_in t.now c) }
+#[tactic(auto, using(gate::proofs::Tables::table_whole))]
+pub fn height_in(table: SoundTable) -> usize
+    ensures { result ≡ true_height (tree_in table.entry.words.now table.entry.slots) }
 {
-    let n = words::records(t);
-    let root = words::root(t);
-    if root == 0 { 0 } else { height_at(t, n, root) }
+    fork::fold_in(Heights, table.words, table.slots, ())
 }
 
 // The true height, answered like a call of document 01, though none asks for it.
+#[tactic(auto, unfolding(crate::specs::Adding::height_answer))]
 pub fn height(t: &[u32]) -> Answer
     ensures { result ≡ height_answer t.now }
 {
     match sound::enter_sound(t, true) {
-        Gate::Shut(why) => gate::refuse(why),
-        Gate::Open(c) => gate::told(t, words::size(height_in(t, c))),
+        Err(why) => gate::refuse(why),
+        Ok(table) => gate::told(table.words, height_in(table) as u64),
     }
 }
 
@@ -69,59 +63,54 @@ pub fn height(t: &[u32]) -> Answer
 pub fn counted(s: Slot, key: u32) -> u64
     ensures { result ≡ counted_of key s.key s.pieces }
 {
-    if s.key <= key {
-        words::long(s.pieces)
-    } else {
+    if s.key <= key { u64::from(s.pieces) } else { 0 }
+}
+
+// The pieces of all records of a tree with a key of at most `key`.
+#[derive(Clone, Copy)]
+pub struct Pieces {
+    pub key: u32,
+}
+
+impl Fold for Pieces {
+    type Down = ();
+
+    type Up = u64;
+
+    ghost says = { λ it down T. total_of it.key T };
+
+    ghost bears = { λ it more down. Unit };
+
+    ghost handed = { λ it register. tt };
+
+    ghost borne = { λ it t more x f down d any. (tt, tt) };
+
+    fn nothing(self) -> u64 {
         0
     }
-}
 
-// Adds to a sum the pieces of all records with a key of at most `key`, in slot x and what hangs below it.
-#[cycle(total_at_total_under)]
-pub fn total_at(t: &[u32], more: usize, x: usize, key: u32, sum: u64) -> u64
-    requires { (1 ≤ x) × Adding t.now more x sum }
-    ensures { Says t.now x (total_on sum key) result }
-{
-    let f = fork::fork_at(t, x);
-    let less = more - 1;
-    let slot = f.slot;
-    let left = total_under(t, less, f.left, key, sum + counted(slot, key));
-    total_under(t, less, f.right, key, left)
-}
+    fn hand(self, _register: u32) {}
 
-// The same at a link, which may be empty.
-#[cycle(total_at_total_under)]
-pub fn total_under(t: &[u32], more: usize, x: usize, key: u32, sum: u64) -> u64
-    requires { Adding t.now more x sum }
-    ensures { Says t.now x (total_on sum key) result }
-{
-    if x == 0 {
-        sum
-    } else {
-        total_at(t, more, x, key, sum)
+    fn join(self, f: Fork, _down: (), a: u64, b: u64) -> u64 {
+        a + b + counted(f.slot, self.key)
     }
 }
 
 // The same over a sound table.
-pub fn total_in(t: &[u32], c: usize, key: u32) -> u64
-    requires { Whole t.now c }
-    ensures { result ≡ total_of key (tree_in t.now c) }
+#[tactic(auto, using(gate::proofs::Tables::table_whole))]
+pub fn total_in(table: SoundTable, key: u32) -> u64
+    ensures { result ≡ total_of key (tree_in table.entry.words.now table.entry.slots) }
 {
-    let n = words::records(t);
-    let root = words::root(t);
-    if root == 0 {
-        0
-    } else {
-        total_at(t, n, root, key, 0)
-    }
+    fork::fold_in(Pieces { key }, table.words, table.slots, ())
 }
 
 // total: the pieces of all records with a key of at most `key`.
+#[tactic(auto, unfolding(scope::specs::Sums::total_answer))]
 pub fn total(t: &[u32], key: u32) -> Answer
     ensures { Promise (Total key) t.now result t.now }
 {
     match sound::enter_sound(t, true) {
-        Gate::Shut(why) => gate::refuse(why),
-        Gate::Open(c) => gate::told(t, total_in(t, c, key)),
+        Err(why) => gate::refuse(why),
+        Ok(table) => gate::told(table.words, total_in(table, key)),
     }
 }

@@ -5,10 +5,11 @@ ghost use Rattle.std.specs.Prelude.{◌≡◌, length, replicate};
 ghost use Rattle.scope.specs.Walk.{passing};
 ghost use Rattle.scope.specs.Find.{found_in};
 ghost use Rattle.scope.specs.Calls.{Start, Find, Promise};
-ghost use Rattle.spelling.specs.Ready.{Sized, Ready};
+ghost use Rattle.spelling.specs.Ready.{Sized};
 ghost use Rattle.walk.specs.Walked.{Walked, WalkInside, way_of};
 
-use scope::{Answer, Gate, Link, Passed, Refusal, Side, Slot, SlotsIs, Walk};
+use gate::Table;
+use scope::{Answer, Link, Passed, Refusal, Side, Slot, Walk};
 
 // The side on which a key would hang under a slot.
 pub fn way(key: u32, s: Slot) -> Side
@@ -36,11 +37,12 @@ pub fn pass(side: Side, key: u32, passed: Passed) -> Passed
 // Walks from the root to a key, or to the empty link where it would hang. Each slot is first asked where it leads, and
 // tested only then, together with the number of its visit: the processor needs the answer for the next slot, and does
 // the tests beside it.
-pub fn search(t: &[u32], c: usize, key: u32) -> Walk
-    requires { Ready t.now c }
-    ensures { Walked t.now c key result }
+pub fn search(table: Table, key: u32) -> Walk
+    ensures { Walked table.entry.words.now table.entry.slots key result }
 {
-    let mut at = words::root(t);
+    let t = table.words;
+    let c = table.slots;
+    let mut at = words::root(t) as usize;
     let mut link = Link {
         holder: Link::ROOT,
         side: Side::Left,
@@ -53,7 +55,8 @@ pub fn search(t: &[u32], c: usize, key: u32) -> Walk
         }
         let s = words::slot_at(t, at);
         let side = way(key, s);
-        let next = words::son(s, side);
+        let next = words::son(s, side) as usize;
+        // `seen` is what the walk answers; document 01 wants this loop to break with its outcome.
         seen += 1;
         if !gate::visit_ok(c, seen, s) {
             break Walk::Damage;
@@ -82,22 +85,23 @@ pub fn found(t: &[u32], c: usize, w: Walk) -> Answer
         Walk::Hit { slot, seen, .. } => {
             let s = words::slot_at(t, slot);
             gate::accept(
-                words::long(words::change(t)),
-                words::long(s.pieces),
-                words::size(seen),
-                words::long(s.state),
+                u64::from(words::change(t)),
+                u64::from(s.pieces),
+                seen as u64,
+                u64::from(s.state),
             )
         }
     }
 }
 
 // find: the record of a key.
+#[tactic(auto, unfolding(scope::specs::Find::find_answer), using(gate::proofs::Tables::table_ready))]
 pub fn find(t: &[u32], key: u32) -> Answer
     ensures { Promise (Find key) t.now result t.now }
 {
     match gate::enter(t, key != 0) {
-        Gate::Shut(why) => gate::refuse(why),
-        Gate::Open(c) => found(t, c, search(t, c, key)),
+        Err(why) => gate::refuse(why),
+        Ok(table) => found(table.words, table.slots, search(table, key)),
     }
 }
 
@@ -105,20 +109,17 @@ pub fn find(t: &[u32], key: u32) -> Answer
 pub fn clear(t: &mut [u32])
     ensures { t.new ≡ replicate (length t.old) 0 }
 {
-    let mut i: usize = 0;
-    while i < t.len() {
-        t[i] = 0;
-        i += 1;
-    }
+    t.fill(0);
 }
 
 // start: an empty table.
+#[tactic(auto, unfolding(scope::specs::Find::start_of, scope::specs::Answers::gate))]
 pub fn start(t: &mut [u32]) -> Answer
     ensures { Promise Start t.old result t.new }
 {
     match gate::capacity(t.len()) {
-        SlotsIs::Outside => gate::refuse(Refusal::WrongLength),
-        SlotsIs::Within(_) => {
+        Err(why) => gate::refuse(why),
+        Ok(_) => {
             clear(t);
             gate::accept(0, 0, 0, 0)
         }

@@ -6,8 +6,7 @@ pub mod seek;
 pub mod write;
 
 pub use read::{
-    change, link_at, link_word, long, records, records_word, register, register_at, root,
-    root_word, size, slot_at, son, son_word, wide, zero,
+    change, link_at, link_word, over, records, register, register_at, root, slot_at, son, zero,
 };
 pub use seek::free_slot;
-pub use write::{put_change, put_link, put_link_word, put_records, put_register, put_slot};
+pub use write::{put_change, put_link, put_records, put_register, put_slot};

@@ -2,60 +2,33 @@
 ghost use Rattle.std.specs.Prelude.{◌≡◌, ◌≤◌, ◌<◌, length};
 ghost use Rattle.scope.specs.Numbers.{most_slots};
 ghost use Rattle.scope.specs.Table.{word, root_word, count_word, change_word, zero_word, slot_at, son, register, link_at, register_at, InTable};
+ghost use Rattle.scope.specs.Tree.{over};
 ghost use Rattle.spelling.specs.Ready.{Headed};
 
 use scope::{Head, Link, Side, Slot};
 
-// A word as an index.
-pub fn wide(x: u32) -> usize
-    ensures { result ≡ x }
+// One more than the larger of two registers.
+pub fn over(a: u32, b: u32) -> u64
+    ensures { result ≡ over a b }
 {
-    x as usize
+    1 + u64::from(a.max(b))
 }
 
-// A word as a number of an answer.
-pub fn long(x: u32) -> u64
-    ensures { result ≡ x }
-{
-    x as u64
-}
-
-// An index as a number of an answer.
-pub fn size(n: usize) -> u64
-    ensures { result ≡ n }
-{
-    n as u64
-}
-
-// The header's words of the root and of the count, as they stand.
-pub fn root_word(t: &[u32]) -> u32
+// The root's slot. This, a son and what hangs at a link are the table's own words, and its 0 for none stays: each
+// promise is an equation with the word (`word`, `son`).
+pub fn root(t: &[u32]) -> u32
     requires { Headed t.now }
     ensures { result ≡ word t.now root_word }
 {
     t[Head::ROOT]
 }
 
-pub fn records_word(t: &[u32]) -> u32
+// How many records the header counts.
+pub fn records(t: &[u32]) -> u32
     requires { Headed t.now }
     ensures { result ≡ word t.now count_word }
 {
     t[Head::COUNT]
-}
-
-// The root's slot, 0 for none.
-pub fn root(t: &[u32]) -> usize
-    requires { Headed t.now }
-    ensures { result ≡ word t.now root_word }
-{
-    wide(root_word(t))
-}
-
-// How many records the header counts.
-pub fn records(t: &[u32]) -> usize
-    requires { Headed t.now }
-    ensures { result ≡ word t.now count_word }
-{
-    wide(records_word(t))
 }
 
 // The change number.
@@ -92,18 +65,8 @@ pub fn slot_at(t: &[u32], k: usize) -> Slot
     }
 }
 
-// A slot's son on a side, 0 for none.
-pub fn son(s: Slot, side: Side) -> usize
-    ensures { result ≡ son s side }
-{
-    match side {
-        Side::Left => wide(s.left),
-        Side::Right => wide(s.right),
-    }
-}
-
-// The same as the word that it is.
-pub fn son_word(s: Slot, side: Side) -> u32
+// A slot's son on a side, as its word says: 0 for none.
+pub fn son(s: Slot, side: Side) -> u32
     ensures { result ≡ son s side }
 {
     match side {
@@ -139,13 +102,13 @@ pub fn link_word(link: Link) -> usize
     }
 }
 
-// The slot that hangs at a link, 0 for none.
+// The slot that hangs at a link, as its word says: 0 for none.
 pub fn link_at(t: &[u32], link: Link) -> usize
     requires { (link.holder ≤ most_slots) × (link_at link < length t.now) }
     ensures { result ≡ word t.now (link_at link) }
 {
     let at = link_word(link);
-    wide(t[at])
+    t[at] as usize
 }
 
 // Where the register on a side of a slot stands.

@@ -23,22 +23,13 @@ pub fn put_slot(t: &mut [u32], k: usize, s: Slot)
     t[b + Slot::LAST] = s.last;
 }
 
-// A slot's number in a link.
-pub fn put_link(t: &mut [u32], link: Link, k: usize)
-    requires { (link.holder ≤ most_slots) × (link_at link < length t.old) × (k < 4294967296) }
+// A slot's number, or 0, in a link.
+pub fn put_link(t: &mut [u32], link: Link, k: u32)
+    requires { (link.holder ≤ most_slots) × (link_at link < length t.old) }
     ensures { t.new ≡ set t.old (link_at link) k }
 {
     let at = link_word(link);
-    t[at] = k as u32;
-}
-
-// A link's word as it was read elsewhere.
-pub fn put_link_word(t: &mut [u32], link: Link, x: u32)
-    requires { (link.holder ≤ most_slots) × (link_at link < length t.old) }
-    ensures { t.new ≡ set t.old (link_at link) x }
-{
-    let at = link_word(link);
-    t[at] = x;
+    t[at] = k;
 }
 
 // A height in a register.

@@ -26,10 +26,10 @@ unfolding own_weight
 own-most a b o g pa pb po pg = let h = product o (over a b - g) po (omega arith) in omega arith
 
 -- as the code adds it up
-pub own_eq : (s : Slot) (o g : ℕ) {a b h w p n : ℕ} → a ≡ s.lefth → b ≡ s.righth → h ≡ over s.lefth s.righth
-    → w ≡ o * (h - g) + (g - h) → p ≡ gap a b → n ≡ 2 * p + (p - 1) → 6 * w + n ≡ own_weight s.lefth s.righth o g
+pub own_eq : (s : Slot) (o g : ℕ) {h w p n : ℕ} → h ≡ over s.lefth s.righth → w ≡ o * (h - g) + (g - h)
+    → p ≡ gap s.lefth s.righth → n ≡ 2 * p + (p - 1) → 6 * w + n ≡ own_weight s.lefth s.righth o g
 unfolding own_weight
-own_eq s o g ea eb eh ew ep en = cc
+own_eq s o g eh ew ep en = cc
 
 -- the four sums over a node, put in order
 gather : (X Y p q u v N M P Q g h B C R S : ℕ)

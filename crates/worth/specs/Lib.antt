@@ -1,2 +1,3 @@
 -- What a tree weighs, as one recursion.
 pub mod Weight
+pub mod Bearing

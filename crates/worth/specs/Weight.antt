@@ -1,10 +1,11 @@
 -- What a tree weighs, with n nodes in all and a register above it. Assumes nothing: these are definitions.
-use Rattle.std.specs.Prelude.{ℕ, ◌+◌, ◌-◌, ◌*◌, ◌%◌, ◌≤◌, List}
+use Rattle.std.specs.Prelude.{ℕ, ◌+◌, ◌-◌, ◌*◌, ◌≤◌, List}
 use Rattle.scope.specs.Numbers.{most_slots}
 use Rattle.scope.specs.Tree.{Tree, leaf, node, size, over}
 use Rattle.scope.specs.Worth.{gap, neg_of, pos_of, NEG, POS, BAL, RBAL}
 use Rattle.scope.specs.declared.slot.Slot.{Slot}
 use Rattle.fork.specs.Hangs.{FewHang}
+use Rattle.worth.specs.declared.Load.{Load}
 
 -- the four sums, the carry of the tree's own top counted too
 unfoldable pub weight_of : ℕ → ℕ → Tree → ℕ
@@ -15,18 +16,9 @@ unfoldable pub own_weight : ℕ → ℕ → ℕ → ℕ → ℕ
 own_weight a b out above =
     6 * (out * (over a b - above) + (above - over a b)) + (2 * gap a b + (gap a b - 1))
 
--- what weights are counted in: more than there can be slots
-abbrev pub unit : ℕ
-unit = most_slots + 1
-
--- weight and size as one number
-unfoldable pub load_of : ℕ → ℕ → Tree → ℕ
-load_of n above T = unit * weight_of n above T + size T
-
--- a slot over its two sides
-abbrev pub joined : Slot → ℕ → ℕ → ℕ → ℕ → ℕ
-joined s n above a b =
-    unit * own_weight s.lefth s.righth (n - (a + b + 1) % unit) above + (a + b + 1)
+-- weight and size
+unfoldable pub load_of : ℕ → ℕ → Tree → Load
+load_of n above T = record { weight = weight_of n above T; slots = size T }
 
 -- the height that the root's registers show, under which the root has no carry
 unfoldable pub top_of : Tree → ℕ
@@ -39,12 +31,6 @@ pub record Light (s : Slot) (out above : ℕ) : Type 0 where
   pub right : s.righth ≤ 65535
   pub outside : out ≤ most_slots
   pub over_it : above ≤ 65536
-
--- so are those of two sides, and what they weigh
-pub record Laden (s : Slot) (n above a b : ℕ) : Type 0 where
-  pub light : Light s n above
-  pub few : (a + b + 1) % unit ≤ n
-  pub sum : a + b ≤ 40000000000000000
 
 -- a walk of at most `more` of n slots, under a register in range
 pub record Bearable (more n above : ℕ) : Type 0 where

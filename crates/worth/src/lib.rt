@@ -1,35 +1,24 @@
-// The worth of a sound table, by one walk of both sides that counts the slots as it goes.
+// The worth of a sound table, by the walk of both sides (`fork`), which counts the slots as it goes.
 #![tactic(auto)]
 
 ghost use Rattle.std.specs.Prelude.{◌≡◌, ◌+◌, ◌-◌, ◌*◌, ◌≤◌, ◌<◌};
 ghost use Rattle.scope.specs.Numbers.{most_slots, most_height};
-ghost use Rattle.scope.specs.Tree.{over};
 ghost use Rattle.scope.specs.Sound.{tree_in};
-ghost use Rattle.scope.specs.Worth.{gap, worth_of};
+ghost use Rattle.scope.specs.Worth.{worth_of};
 ghost use Rattle.scope.specs.Calls.{Worth, Promise};
-ghost use Rattle.spelling.specs.Whole.{Whole};
-ghost use Rattle.fork.specs.Hangs.{FewHang, Says};
-ghost use Rattle.worth.specs.Weight.{own_weight, load_of, joined, top_of, Light, Laden, Bearable, Rooted};
+ghost use Rattle.fork.specs.Hangs.{Says};
+ghost use Rattle.worth.specs.Weight.{own_weight, load_of, top_of, Light, Bearable, Rooted};
+ghost use Rattle.worth.specs.Bearing.{bears-sides};
 
-use scope::{Answer, Gate, Slot, Slots};
+use fork::{Fold, Fork};
+use gate::SoundTable;
+use scope::{Answer, Slot};
 
-// What hangs at a link, as one number: its weight in units, and how many slots it is, which is less than a unit.
-pub const UNIT: u64 = Slots::MOST as u64 + 1;
-
-// How far two heights are apart.
-pub fn gap(a: u64, b: u64) -> u64
-    ensures { result ≡ gap a b }
-{
-    if a < b { b - a } else { a - b }
-}
-
-// One more than the larger register of a slot.
-pub fn localh(s: Slot) -> u64
-    ensures { result ≡ over s.lefth s.righth }
-{
-    let a = words::long(s.lefth);
-    let b = words::long(s.righth);
-    if a < b { b + 1 } else { a + 1 }
+// What hangs at a link: what it weighs, and how many slots it is.
+#[derive(Clone, Copy)]
+pub struct Load {
+    pub weight: u64,
+    pub slots: u64,
 }
 
 // What a carry weighs: `out` slots outside, the local height, the register above it.
@@ -57,45 +46,48 @@ pub fn own_weight(s: Slot, out: u64, above: u64) -> u64
     requires { Light s out above }
     ensures { (result ≡ own_weight s.lefth s.righth out above) × (result ≤ 2000000000) }
 {
-    let w = carry(out, localh(s), above);
-    let p = gap(words::long(s.lefth), words::long(s.righth));
+    let w = carry(out, words::over(s.lefth, s.righth), above);
+    let p = u64::from(s.lefth.abs_diff(s.righth));
     6 * w + balance(p)
 }
 
-// A slot over its two sides, of n slots in all.
-pub fn join(s: Slot, n: u64, above: u64, a: u64, b: u64) -> u64
-    requires { Laden s n above a b }
-    ensures { result ≡ joined s n above a b }
-{
-    let both = a + b + 1;
-    let own = own_weight(s, n - both % UNIT, above);
-    UNIT * own + both
+// The load of a tree, of n slots in all, with a register above it.
+#[derive(Clone, Copy)]
+pub struct Loads {
+    pub n: u64,
 }
 
-// What slot x and what hangs below it weigh, of n slots in all, with a register above it.
-#[cycle(weigh_at_weigh_under)]
-pub fn weigh_at(t: &[u32], more: usize, x: usize, n: u64, above: u64) -> u64
-    requires { (1 ≤ x) × FewHang t.now more x × Bearable more n above }
-    ensures { Says t.now x (load_of n above) result }
-{
-    let f = fork::fork_at(t, x);
-    let less = more - 1;
-    let slot = f.slot;
-    let a = weigh_under(t, less, f.left, n, words::long(slot.lefth));
-    let b = weigh_under(t, less, f.right, n, words::long(slot.righth));
-    join(slot, n, above, a, b)
-}
+impl Fold for Loads {
+    type Down = u64;
 
-// The same at a link, which may be empty.
-#[cycle(weigh_at_weigh_under)]
-pub fn weigh_under(t: &[u32], more: usize, x: usize, n: u64, above: u64) -> u64
-    requires { FewHang t.now more x × Bearable more n above }
-    ensures { Says t.now x (load_of n above) result }
-{
-    if x == 0 {
-        0
-    } else {
-        weigh_at(t, more, x, n, above)
+    type Up = Load;
+
+    ghost says = { λ it above T. load_of it.n above T };
+
+    ghost bears = { λ it more above. Bearable more it.n above };
+
+    ghost handed = { λ it register. register };
+
+    ghost borne = { λ it t more x f above d w. bears-sides d w };
+
+    fn nothing(self) -> Load {
+        Load {
+            weight: 0,
+            slots: 0,
+        }
+    }
+
+    fn hand(self, register: u32) -> u64 {
+        u64::from(register)
+    }
+
+    fn join(self, f: Fork, above: u64, a: Load, b: Load) -> Load {
+        let slots = a.slots + b.slots + 1;
+        let own = own_weight(f.slot, self.n - slots, above);
+        Load {
+            weight: a.weight + b.weight + own,
+            slots,
+        }
     }
 }
 
@@ -107,30 +99,28 @@ pub fn top(t: &[u32], x: usize) -> u64
     if x == 0 {
         0
     } else {
-        localh(words::slot_at(t, x))
+        let s = words::slot_at(t, x);
+        words::over(s.lefth, s.righth)
     }
 }
 
 // The worth of a sound table.
-pub fn worth_in(t: &[u32], c: usize) -> u64
-    requires { Whole t.now c }
-    ensures { result ≡ worth_of (tree_in t.now c) }
+pub fn worth_in(table: SoundTable) -> u64
+    ensures { result ≡ worth_of (tree_in table.entry.words.now table.entry.slots) }
 {
-    let n = words::records(t);
-    let root = words::root(t);
-    if root == 0 {
-        0
-    } else {
-        weigh_at(t, n, root, words::size(n), top(t, root)) / UNIT
-    }
+    let t = table.words;
+    let n = words::records(t) as u64;
+    let above = top(t, words::root(t) as usize);
+    fork::fold_in(Loads { n }, t, table.slots, above).weight
 }
 
 // worth: how far the registers are from those of a balanced tree.
+#[tactic(auto, unfolding(scope::specs::Worth::worth_answer))]
 pub fn worth(t: &[u32]) -> Answer
     ensures { Promise Worth t.now result t.now }
 {
     match sound::enter_sound(t, true) {
-        Gate::Shut(why) => gate::refuse(why),
-        Gate::Open(c) => gate::told(t, worth_in(t, c)),
+        Err(why) => gate::refuse(why),
+        Ok(table) => gate::told(table.words, worth_in(table)),
     }
 }

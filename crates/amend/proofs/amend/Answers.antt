@@ -6,20 +6,15 @@ use Rattle.amend.proofs.amend.Goals as goal
 
 pub change_record-requires : goal.change_record-requires
 change_record-requires c =
-    rw c.in-Change.is at c.plan_amend.ensures.can
+    rw c.in-Ok.is at c.plan_amend.ensures.can
 
-pub returns-in-Refuse : goal.returns-in-Refuse
+pub returns-in-Err : goal.returns-in-Err
 unfolding amend_of amended
-returns-in-Refuse c =
-    carried (amended _ _ _) c.plan_amend.ensures.is c.in-Refuse.is (c.refuse.ensures, refl)
+returns-in-Err c =
+    carried (amended _ _ _) c.plan_amend.ensures.is c.in-Err.is (c.deny.ensures, refl)
 
-pub returns-in-Absent : goal.returns-in-Absent
-unfolding amend_of amended
-returns-in-Absent c =
-    carried (amended _ _ _) c.plan_amend.ensures.is c.in-Absent.is (c.absent.ensures, refl)
-
-pub returns-in-Change : goal.returns-in-Change
+pub returns-in-Ok : goal.returns-in-Ok
 unfolding amend_of
-returns-in-Change c =
-    carried (amended _ _ _) c.plan_amend.ensures.is c.in-Change.is
+returns-in-Ok c =
+    carried (amended _ _ _) c.plan_amend.ensures.is c.in-Ok.is
     c.change_record.ensures

@@ -23,9 +23,6 @@ use Rattle.scope.specs.declared.side.Link.{Link}
 use Rattle.scope.specs.declared.answer.Refusal.TheVariants.{GuardFails}
 use Rattle.scope.specs.declared.slot.Slot.{Slot}
 use Rattle.scope.specs.declared.outcome.Nodes.{Nodes}
-use Rattle.scope.specs.declared.outcome.Taken.TheVariants.{Got, Not}
-use Rattle.scope.specs.declared.outcome.Firing.{Firing}
-use Rattle.scope.specs.declared.outcome.Firing.TheVariants.{Refuse}
 use Rattle.tree.specs.Rewrite.{mk, rule_on, Test, when, within, rewrite_top, fire_top, propagated_tree, rotated_tree, doubled}
 use Rattle.tree.proofs.Firing.Steps.{by_side, top-is}
 use Rattle.tree.proofs.Firing.Sides.{times-mk}
@@ -36,20 +33,22 @@ use Rattle.bridge.proofs.Links.Outside.{same-one, StandsIn}
 use Rattle.bridge.proofs.Firing.Turns.{look-v, look-u, v-in, u-in, x-y, not-holder, two_nodes}
 use Rattle.bridge.proofs.Firing.Turns.{propagate-below, rotate-below}
 use Rattle.bridge.proofs.Firing.Twice.{look-w, w-in, x-z, y-z, three_nodes, twice-below}
+use Rattle.std.specs.Prelude.{Result, Ok, Err}
+use Rattle.scope.specs.declared.answer.Refusal.{Refusal}
 
 -- a node that is none of the slots before it is taken
 take-got : {t : List ℕ} {c x : ℕ} {s : Side} {d : Batch} {p : Pair} {near far : Tree} → Looks t c x s d p near far
-    → (a b e : ℕ) → (x ≡ a → ⊥) → (x ≡ b → ⊥) → (x ≡ e → ⊥) → take_of t c x a b e ≡ Got (slot_at t x)
+    → (a b e : ℕ) → (x ≡ a → ⊥) → (x ≡ b → ⊥) → (x ≡ e → ⊥) → take_of t c x a b e ≡ Ok (slot_at t x)
 unfolding take_of
 take-got {x = x} h a b e na nb ne =
     simp (ne_eqb x 0 (λ q. omega (arith, h.there)), h.fit, ne_eqb x a na, ne_eqb x b nb, ne_eqb x e ne)
 
-take_none : (t : List ℕ) (c a b e : ℕ) → take_of t c 0 a b e ≡ Not GuardFails
+take_none : (t : List ℕ) (c a b e : ℕ) → take_of t c 0 a b e ≡ Err GuardFails
 unfolding take_of
 take_none t c a b e = refl
 
 module _ (t : List ℕ) (Q : Tree → List ℕ → Type 0) where
-  alike-by : {g g' o o' : Option Tree} {f f' : Firing} → g ≡ g' → o ≡ o' → f ≡ f' → Alike t Q g' o' f' → Alike t Q g o f
+  alike-by : {g g' o o' : Option Tree} {f f' : (Result (Rule × Nodes) Refusal)} → g ≡ g' → o ≡ o' → f ≡ f' → Alike t Q g' o' f' → Alike t Q g o f
   alike-by d e g h = rw (d, e, g) h
 
   -- the guard first, then the limit
@@ -80,7 +79,7 @@ module _ (t : List ℕ) (c : ℕ) (l : Link) where
   At S S' t' = ChangedBelow t t' c l S S'
 
   -- no v, no u, no w
-  no-v : (r : Rule) → Hangs t c l leaf → aim_v t c r l ≡ Refuse GuardFails
+  no-v : (r : Rule) → Hangs t c l leaf → aim_v t c r l ≡ Err GuardFails
   unfolding aim_v Spells
   no-v r h = rw (h.spells, take_none) refl
 
@@ -90,7 +89,7 @@ module _ (t : List ℕ) (c : ℕ) (l : Link) where
     unfolding aim_v
     got-v a ne = simp (take-got a l.holder 0 0 ne (λ q. omega (arith, a.there)) (λ q. omega (arith, a.there)))
 
-    no-u : (sv : Slot) → son sv s ≡ 0 → aim_u t c (rule_on k s) l x sv ≡ Refuse GuardFails
+    no-u : (sv : Slot) → son sv s ≡ 0 → aim_u t c (rule_on k s) l x sv ≡ Err GuardFails
     unfolding aim_u
     no-u sv e = rw (e, take_none) refl
 
@@ -168,7 +167,7 @@ module _ (t : List ℕ) (c : ℕ) (l : Link) where
     abbrev z : ℕ
     z = son (slot_at t (y s)) (other s)
 
-    no-w : z ≡ 0 → aim_w t c (rule_on Double s) l x (slot_at t x) (y s) (slot_at t (y s)) ≡ Refuse GuardFails
+    no-w : z ≡ 0 → aim_w t c (rule_on Double s) l x (slot_at t x) (y s) (slot_at t (y s)) ≡ Err GuardFails
     unfolding aim_w
     no-w e = rw (e, take_none) refl
 

@@ -18,8 +18,6 @@ use Rattle.scope.specs.declared.side.Side.{Side}
 use Rattle.scope.specs.declared.side.Side.TheVariants.{Left, Right}
 use Rattle.scope.specs.declared.side.Link.{Link}
 use Rattle.scope.specs.declared.answer.Refusal.{Refusal}
-use Rattle.scope.specs.declared.outcome.Firing.{Firing}
-use Rattle.scope.specs.declared.outcome.Firing.TheVariants.{Refuse, Fire}
 use Rattle.spelling.proofs.Laws.{fits}
 use Rattle.tree.specs.Rewrite.{mk, over_near, fire_at, accept_at, rewrite_at}
 use Rattle.tree.specs.Place.{subtree}
@@ -31,6 +29,8 @@ use Rattle.tree.specs.Seek.{route, end_of, at_key}
 use Rattle.tree.proofs.Keys.Keyed.{by_key}
 use Rattle.bridge.proofs.Firing.Aims.{same_at}
 use Rattle.bridge.proofs.Links.Above.{hangs-down, holder-fit, below-cut, above-cut, changed-above}
+use Rattle.std.specs.Prelude.{Result, Ok, Err}
+use Rattle.scope.specs.declared.outcome.Nodes.{Nodes}
 
 -- the holder of a link is a fit slot, or it is the root's link
 abbrev pub Held : List ℕ → ℕ → Link → Type 0
@@ -55,13 +55,13 @@ hung-unmet : (s : Side) (d : Batch) (p : Pair) (far : Tree) {g : Option Tree} {w
 hung-unmet s d p far guard_fails = guard_fails
 hung-unmet s d p far too_high = too_high
 
-hung-alike : (t : List ℕ) (Q R : Tree → List ℕ → Type 0) (s : Side) (d : Batch) (p : Pair) (far : Tree) (g o : Option Tree) (f : Firing)
+hung-alike : (t : List ℕ) (Q R : Tree → List ℕ → Type 0) (s : Side) (d : Batch) (p : Pair) (far : Tree) (g o : Option Tree) (f : Result (Rule × Nodes) Refusal)
     → ((near : Tree) (t' : List ℕ) → Q near t' → R (mk s d p near far) t') → Alike t Q g o f
     → Alike t R (over_near s d p g far) (over_near s d p o far) f
-hung-alike t Q R s d p far g none (Refuse why) up a = hung-unmet s d p far a
-hung-alike t Q R s d p far g none (Fire r n) up a = a
-hung-alike t Q R s d p far g (some near) (Refuse why) up a = a
-hung-alike t Q R s d p far g (some near) (Fire r n) up a = up near _ a
+hung-alike t Q R s d p far g none (Err why) up a = hung-unmet s d p far a
+hung-alike t Q R s d p far g none (Ok (r, n)) up a = a
+hung-alike t Q R s d p far g (some near) (Err why) up a = a
+hung-alike t Q R s d p far g (some near) (Ok (r, n)) up a = up near _ a
 
 -- ALONG A WAY: on words as on the tree
 pub same-along : {t : List ℕ} {c : ℕ} (r : Rule) (way : List Side) (l : Link) (T S : Tree) → Hangs t c l T → Held t c l

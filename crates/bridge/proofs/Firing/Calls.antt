@@ -14,14 +14,9 @@ use Rattle.scope.specs.Table.{head_words, slot_words, slots_in}
 use Rattle.scope.specs.Tree.{Tree, times}
 use Rattle.scope.specs.Fire.{aimed, fire_plan}
 use Rattle.scope.specs.declared.rule.Rule.{Rule}
-use Rattle.scope.specs.declared.rule.RuleIs.TheVariants as rule-is
 use Rattle.scope.specs.declared.side.Side.{Side}
 use Rattle.scope.specs.declared.side.Side.TheVariants.{Left}
-use Rattle.scope.specs.declared.side.SideIs.{SideIs}
-use Rattle.scope.specs.declared.side.SideIs.TheVariants as side-is
 use Rattle.scope.specs.declared.side.Link.{Link}
-use Rattle.scope.specs.declared.side.LinkIs.TheVariants as link-is
-use Rattle.scope.specs.declared.slots.SlotsIs.TheVariants.{Within}
 use Rattle.spelling.specs.Ready.{Sized}
 use Rattle.spelling.specs.Whole.{Whole}
 use Rattle.tree.specs.Place.{subtree}
@@ -30,9 +25,10 @@ use Rattle.bridge.specs.Fired.{FireEnds, at_way, no_way}
 use Rattle.bridge.proofs.Links.Ways.{leads, leads-holder}
 use Rattle.tree.proofs.Firing.Place.{same_none}
 use Rattle.bridge.proofs.Firing.Fires.{hangs-root, same_way, free-holder}
+use Rattle.std.specs.Prelude.{Option, Some, None}
 
 -- a table of c slots is taken for one
-pub sized-slots : {t : List ℕ} {c : ℕ} → Sized t c → slots_in (length t) ≡ Within (record { count = c })
+pub sized-slots : {t : List ℕ} {c : ℕ} → Sized t c → slots_in (length t) ≡ Some (record { count = c })
 unfolding slots_in slots_of
 sized-slots {t} {c} z =
     let a : length t % slot_words ≡ head_words = omega arith in
@@ -44,14 +40,14 @@ pub record LinkIn (c : ℕ) (l : Link) : Type 0 where
   pub most : l.holder ≤ c
   pub root : l.holder ≡ 0 → l ≡ root_link
 
-side_left : (n : ℕ) (s : Side) → side_of n ≡ side-is.Known s → n ≡ 0 → s ≡ Left
+side_left : (n : ℕ) (s : Side) → side_of n ≡ Some s → n ≡ 0 → s ≡ Left
 unfolding side_of
 side_left n s e z = let q = rw z at e in cc
 
-known_in : (c holder n : ℕ) (i : SideIs) (l : Link) → holder ≤ c → side_of n ≡ i
-    → known_link holder n i ≡ link-is.Known l → LinkIn c l
-known_in c holder n side-is.Unknown l h e q = never cc
-known_in c holder n (side-is.Known s) l h e q =
+known_in : (c holder n : ℕ) (i : Option Side) (l : Link) → holder ≤ c → side_of n ≡ i
+    → known_link holder n i ≡ Some l → LinkIn c l
+known_in c holder n None l h e q = never cc
+known_in c holder n (Some s) l h e q =
     by_bool (eqb holder 0 && not (eqb n 0))
     (λ p. let x = simp p at q in never cc)
     (λ p. let x = simp p at q in
@@ -65,7 +61,7 @@ known_in c holder n (side-is.Known s) l h e q =
           (λ w. let v = rw w at y in never cc);
     }))
 
-pub link-in : (c holder side : ℕ) (l : Link) → link_of c holder side ≡ link-is.Known l → LinkIn c l
+pub link-in : (c holder side : ℕ) (l : Link) → link_of c holder side ≡ Some l → LinkIn c l
 unfolding link_of
 link-in c holder side l e =
     by_bool (ltb c holder)
@@ -99,8 +95,8 @@ module _ {t : List ℕ} {c : ℕ} (w : Whole t c) where
       ])
 
   -- with numbers that name a rule and a link, it is that rule at that link
-  pub plan-is : (rule holder side : ℕ) (r : Rule) (l : Link) → rule_of rule ≡ rule-is.Known r
-      → link_of c holder side ≡ link-is.Known l
+  pub plan-is : (rule holder side : ℕ) (r : Rule) (l : Link) → rule_of rule ≡ Some r
+      → link_of c holder side ≡ Some l
       → fire_plan t rule holder side ≡ aimed t c r l
   unfolding fire_plan
   plan-is rule holder side r l a b = rw (sized-slots w.sized, a, b) refl

@@ -18,8 +18,6 @@ use Rattle.scope.specs.declared.rule.Rule.{Rule}
 use Rattle.scope.specs.declared.side.Side.{Side}
 use Rattle.scope.specs.declared.side.Link.{Link}
 use Rattle.scope.specs.declared.answer.Refusal.TheVariants.{GuardFails}
-use Rattle.scope.specs.declared.outcome.Firing.{Firing}
-use Rattle.scope.specs.declared.outcome.Firing.TheVariants.{Refuse, Fire}
 use Rattle.spelling.proofs.Slots.{blank-state}
 use Rattle.spelling.proofs.Laws.{header-root, header-count}
 use Rattle.spelling.specs.Whole.{Whole}
@@ -34,6 +32,9 @@ use Rattle.bridge.specs.Alike.{Alike}
 use Rattle.bridge.specs.Leads.{Leads}
 use Rattle.bridge.specs.Fired.{Fired}
 use Rattle.bridge.proofs.Firing.Along.{same-along}
+use Rattle.std.specs.Prelude.{Result, Ok, Err}
+use Rattle.scope.specs.declared.answer.Refusal.{Refusal}
+use Rattle.scope.specs.declared.outcome.Nodes.{Nodes}
 
 -- a good header stays one with another root in range
 pub new-header : (t t' : List ℕ) (c : ℕ) → header_ok c t ≡ true → word t' root_word ≤ c → word t' count_word ≤ c
@@ -80,13 +81,13 @@ module _ {t : List ℕ} {c : ℕ} (w : Whole t c) where
       stay k i z = b.slots k i z ∙ rw (ne_eqb k 0 (λ q. omega arith))
 
   -- what comes out below the root leaves the table sound
-  sound-alike : (r : Rule) (way : List Side) (o : Option Tree) (f : Firing) → accept_at way r T ≡ o
+  sound-alike : (r : Rule) (way : List Side) (o : Option Tree) (f : Result (Rule × Nodes) Refusal) → accept_at way r T ≡ o
       → Alike t (λ T' t'. ChangedBelow t t' c root_link T T') (fire_at way r T) o f
       → Alike t (λ T' t'. Fired t t' c T T') (fire_at way r T) o f
-  sound-alike r way none (Refuse why) e a = a
-  sound-alike r way none (Fire q n) e a = a
-  sound-alike r way (some T') (Refuse why) e a = a
-  sound-alike r way (some T') (Fire q n) e a = still-sound a (keeps (within most_height) way r T T' e).records
+  sound-alike r way none (Err why) e a = a
+  sound-alike r way none (Ok (q, n)) e a = a
+  sound-alike r way (some T') (Err why) e a = a
+  sound-alike r way (some T') (Ok (q, n)) e a = still-sound a (keeps (within most_height) way r T T' e).records
 
   -- ON A SOUND TABLE, at the link that a way leads to: accepted on words exactly if on the tree, and then they spell what comes of it
   pub same_way : (r : Rule) (l : Link) (p : Leads t root_link T l)
@@ -98,7 +99,7 @@ module _ {t : List ℕ} {c : ℕ} (w : Whole t c) where
 
   -- a free holder: nothing is fired
   pub free-holder : (r : Rule) (l : Link) → 1 ≤ l.holder → l.holder ≤ c → times l.holder T ≡ 0
-      → aim t c r l ≡ Refuse GuardFails
+      → aim t c r l ≡ Err GuardFails
   unfolding aim
   free-holder r l i j z =
       let b = w.sound.rest l.holder i j z in

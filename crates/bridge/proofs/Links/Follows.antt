@@ -17,12 +17,12 @@ use Rattle.scope.specs.declared.side.Side.{Side}
 use Rattle.scope.specs.declared.side.Side.TheVariants.{Left, Right}
 use Rattle.scope.specs.declared.side.Link.{Link}
 use Rattle.scope.specs.declared.slot.Slot.{Slot}
-use Rattle.scope.specs.declared.outcome.Leftmost.TheVariants as leftmost
 use Rattle.spelling.proofs.Laws.{fit-left, link-son}
 use Rattle.scope.specs.Edits.{son_on}
 use Rattle.bridge.specs.Edit.{shape, with_part}
 use Rattle.bridge.specs.Below.{Hangs, ChangedBelow}
 use Rattle.tree.specs.Without.{least, least_link}
+use Rattle.std.specs.Prelude.{Some}
 
 part-son : (s : Side) (n : ℕ) (z : Slot) → son (with_part (son_on s) n z) s ≡ n
 unfolding with_part shape
@@ -94,7 +94,7 @@ least-stands t c x d a b (node e u v l m) r h p =
 -- and the walk finds it
 pub least-walk : (t : List ℕ) (c more x : ℕ) (k : Link) (d : Batch) (a b : ℕ) (l r : Tree)
     → true_height (node d a b l r) ≤ more → Spells t c x (node d a b l r)
-    → leftmost_from more t c x k ≡ leftmost.Is (least d l).slot (least_link k d l)
+    → leftmost_from more t c x k ≡ Some (record { slot = (least d l).slot; link = (least_link k d l) })
 unfolding Spells least least_link leftmost_from true_height
 least-walk t c zero x k d a b l r h p = absurd (omega arith)
 least-walk t c (suc more) x k d a b leaf r h p =

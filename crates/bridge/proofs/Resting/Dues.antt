@@ -11,35 +11,35 @@ use Rattle.scope.specs.Numbers.{other, most_height}
 use Rattle.scope.specs.Table.{word, slot_at, son, link_at}
 use Rattle.scope.specs.Fit.{fit_slot}
 use Rattle.scope.specs.Rules.{guard_at, highest_at}
-use Rattle.scope.specs.Fire.{take_of, on_taken, judged, has_third, aim_w, aim_u, aim_v, aim}
+use Rattle.scope.specs.Fire.{take_of, judged, has_third, aim_w, aim_u, aim_v, aim}
+use Rattle.scope.specs.Answers.{and_then}
 use Rattle.scope.specs.Tidy.{nodes_at, holds_at, due_at}
 use Rattle.scope.specs.declared.slot.Slot.{Slot}
 use Rattle.scope.specs.declared.side.Link.{Link}
 use Rattle.scope.specs.declared.rule.Rule.{Rule}
 use Rattle.scope.specs.declared.answer.Refusal.{Refusal}
 use Rattle.scope.specs.declared.outcome.Nodes.{Nodes}
-use Rattle.scope.specs.declared.outcome.Firing.{Firing}
-use Rattle.scope.specs.declared.outcome.Firing.TheVariants.{Refuse, Fire}
 use Rattle.spelling.proofs.Laws.{fits, fit-son}
 use Rattle.bridge.proofs.Firing.Along.{some-state}
+use Rattle.std.specs.Prelude.{Result, Ok, Err}
 
 -- the rule is due at the slot in the link, and this is its firing there
 pub record FiresDue (t : List ℕ) (c : ℕ) (r : Rule) (l : Link) : Type 0 where
   pub first : 1 ≤ word t (link_at l)
   pub due : due_at t c r (word t (link_at l)) ≡ true
-  pub is : aim t c r l ≡ Fire r (nodes_at t r l (word t (link_at l)))
+  pub is : aim t c r l ≡ Ok (r, (nodes_at t r l (word t (link_at l))))
 
 all-five : {a b d g h : Bool} → a ≡ true → b ≡ true → d ≡ true → g ≡ true → h ≡ true → (a && b && d && g && h) ≡ true
 all-five p q r s t = rw (p, q, r, s, t) refl
 
 module _ (q : Rule) (n : Nodes) where
   -- a refusal is no firing
-  refuses {ℓ} : {X : Type ℓ} {why : Refusal} → Refuse why ≡ Fire q n → X
+  refuses {ℓ} : {X : Type ℓ} {why : Refusal} → ◌≡◌ {A = Result (Rule × Nodes) Refusal} (Err why) (Ok (q, n)) → X
   refuses e = never cc
 
   -- a slot that a firing took is there and fit
-  taken : {X : Type 0} (t : List ℕ) (c k a b e : ℕ) (f : Slot → Firing) → on_taken (take_of t c k a b e) f ≡ Fire q n
-      → (1 ≤ k → fit_slot c (slot_at t k) ≡ true → f (slot_at t k) ≡ Fire q n → X) → X
+  taken : {X : Type 0} (t : List ℕ) (c k a b e : ℕ) (f : Slot → Result (Rule × Nodes) Refusal) → and_then (take_of t c k a b e) f ≡ Ok (q, n)
+      → (1 ≤ k → fit_slot c (slot_at t k) ≡ true → f (slot_at t k) ≡ Ok (q, n) → X) → X
   unfolding take_of
   taken t c k a b e f h go =
       by_bool (eqb k 0)
@@ -53,9 +53,9 @@ module _ (q : Rule) (n : Nodes) where
   record Judged (r : Rule) (m : Nodes) : Type 0 where
     guard : guard_at r m ≡ true
     low : leb (highest_at r m) most_height ≡ true
-    is : Fire q n ≡ Fire r m
+    is : ◌≡◌ {A = Result (Rule × Nodes) Refusal} (Ok (q, n)) (Ok (r, m))
 
-  judged-so : (r : Rule) (m : Nodes) → judged r m ≡ Fire q n → Judged r m
+  judged-so : (r : Rule) (m : Nodes) → judged r m ≡ Ok (q, n) → Judged r m
   unfolding judged
   judged-so r m h =
       by_bool (guard_at r m)
@@ -87,7 +87,7 @@ module _ (q : Rule) (n : Nodes) where
 
     module _ (i : 1 ≤ v) (f : fit_slot c (slot_at t v) ≡ true) where
       aimed-w : 1 ≤ u → fit_slot c (slot_at t u) ≡ true → has_third r.kind ≡ true
-          → aim_w t c r l v (slot_at t v) u (slot_at t u) ≡ Fire q n → Seen
+          → aim_w t c r l v (slot_at t v) u (slot_at t u) ≡ Ok (q, n) → Seen
       unfolding aim_w
       aimed-w j g e h =
           taken t c w l.holder v u _ h
@@ -100,7 +100,7 @@ module _ (q : Rule) (n : Nodes) where
             judged = rw e (judged-so r _ x);
           })
 
-      aimed-u : aim_u t c r l v (slot_at t v) ≡ Fire q n → Seen
+      aimed-u : aim_u t c r l v (slot_at t v) ≡ Ok (q, n) → Seen
       unfolding aim_u
       aimed-u h =
           taken t c u l.holder v 0 _ h
@@ -115,11 +115,11 @@ module _ (q : Rule) (n : Nodes) where
             judged = rw e (judged-so r _ (simp e at x));
           }))
 
-    aimed-v : aim_v t c r l ≡ Fire q n → Seen
+    aimed-v : aim_v t c r l ≡ Ok (q, n) → Seen
     unfolding aim_v
     aimed-v h = taken t c v l.holder 0 0 _ h aimed-u
 
-    aimed-so : aim t c r l ≡ Fire q n → Seen
+    aimed-so : aim t c r l ≡ Ok (q, n) → Seen
     unfolding aim
     aimed-so h =
         by_bool (eqb l.holder 0)
@@ -143,7 +143,7 @@ module _ (q : Rule) (n : Nodes) where
         all-five state at-u at-w s.judged.guard s.judged.low
 
     -- A FIRING THAT COMES OUT is that of a due rule, with its own nodes
-    pub fires-so : aim t c r l ≡ Fire q n → FiresDue t c r l
+    pub fires-so : aim t c r l ≡ Ok (q, n) → FiresDue t c r l
     fires-so h =
         let s = aimed-so h in
         record { first = s.v_first; due = due-so s; is = h ∙ s.judged.is }

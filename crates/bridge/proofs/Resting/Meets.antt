@@ -22,8 +22,6 @@ use Rattle.scope.specs.declared.rule.Rule.{Rule}
 use Rattle.scope.specs.declared.side.Side.{Side}
 use Rattle.scope.specs.declared.side.Link.{Link}
 use Rattle.scope.specs.declared.outcome.Nodes.{Nodes}
-use Rattle.scope.specs.declared.outcome.Firing.{Firing}
-use Rattle.scope.specs.declared.outcome.Firing.TheVariants.{Refuse, Fire}
 use Rattle.spelling.specs.Whole.{Whole}
 use Rattle.tree.specs.Rewrite.{mk, rule_on, Test, rewrite_top, rewrite_at, within, fire_at, accept_at}
 use Rattle.tree.specs.Step.{Step, propagates, leans, evens, doubles}
@@ -41,6 +39,8 @@ use Rattle.bridge.proofs.Firing.Fires.{hangs-root, same_way}
 use Rattle.bridge.proofs.Links.Held.{way-to}
 use Rattle.bridge.proofs.Resting.Linked.{link-to}
 use Rattle.bridge.proofs.Resting.Dues.{FiresDue, fires-so}
+use Rattle.std.specs.Prelude.{Result, Ok, Err}
+use Rattle.scope.specs.declared.answer.Refusal.{Refusal}
 
 -- the nodes of rule r at slot v are there and pass a test
 pub record Meets (test : Test) (t : List ℕ) (c : ℕ) (r : Rule) (v : ℕ) : Type 0 where
@@ -120,10 +120,10 @@ module _ (t : List ℕ) (c : ℕ) (test : Test) (l : Link) where
       (λ du u m n. comes-two r.kind r.side dv du v u m n far))
 
 -- a firing that comes out on the tree does so on words
-fires-out : (t : List ℕ) (Q : Tree → List ℕ → Type 0) (g : Option Tree) (T : Tree) {X : Type 0} (f : Firing)
-    → Alike t Q g (some T) f → ((q : Rule) (n : Nodes) → f ≡ Fire q n → X) → X
-fires-out t Q g T (Refuse why) a k = absurd a
-fires-out t Q g T (Fire q n) a k = k q n refl
+fires-out : (t : List ℕ) (Q : Tree → List ℕ → Type 0) (g : Option Tree) (T : Tree) {X : Type 0} (f : Result (Rule × Nodes) Refusal)
+    → Alike t Q g (some T) f → ((q : Rule) (n : Nodes) → f ≡ Ok (q, n) → X) → X
+fires-out t Q g T (Err why) a k = absurd a
+fires-out t Q g T (Ok (q, n)) a k = k q n refl
 
 module _ {t : List ℕ} {c : ℕ} (w : Whole t c) (r : Rule) where
   abbrev T : Tree
@@ -142,7 +142,7 @@ module _ {t : List ℕ} {c : ℕ} (w : Whole t c) (r : Rule) where
 
   -- A DUE RULE IS FIRED at the slot's link, with the slot's nodes
   pub due-fires : (v : ℕ) → 1 ≤ v → v ≤ c → due_at t c r v ≡ true
-      → aim t c r (link_to t c v) ≡ Fire r (nodes_at t r (link_to t c v) v)
+      → aim t c r (link_to t c v) ≡ Ok (r, (nodes_at t r (link_to t c v) v))
   due-fires v i j e =
       let m = due-meets e in
       let o = meets-there (within most_height) v i j m in

@@ -21,12 +21,9 @@ use Rattle.scope.specs.declared.rule.Pair.{Pair}
 use Rattle.scope.specs.declared.rule.Kind.{Kind}
 use Rattle.scope.specs.declared.rule.Kind.TheVariants.{Propagate, Lean, Even, Double}
 use Rattle.scope.specs.declared.rule.Rule.{Rule}
-use Rattle.scope.specs.declared.rule.RuleIs.TheVariants.{Known}
 use Rattle.scope.specs.declared.side.Side.{Side}
 use Rattle.scope.specs.declared.side.Side.TheVariants.{Left, Right}
 use Rattle.scope.specs.declared.side.Link.{Link}
-use Rattle.scope.specs.declared.outcome.Next.{Next}
-use Rattle.scope.specs.declared.outcome.Next.TheVariants.{At}
 use Rattle.spelling.proofs.Laws.{fits}
 use Rattle.spelling.specs.Whole.{Whole}
 use Rattle.tree.specs.Rewrite.{mk, rule_on, fire_at}
@@ -40,6 +37,7 @@ use Rattle.bridge.proofs.Firing.Turns.{look-v, look-u, y-most}
 use Rattle.bridge.proofs.Firing.Twice.{look-w, w-in}
 use Rattle.bridge.proofs.Firing.Along.{some-state, hangs-along}
 use Rattle.bridge.proofs.Firing.Fires.{hangs-root}
+use Rattle.std.specs.Prelude.{Option, Some}
 
 -- a register beside an empty link is 0
 beside : (t : List ℕ) (c x h : ℕ) (T : Tree) → link_ok c x h ≡ true → Spells t c x T → Beside h T
@@ -139,9 +137,9 @@ pub record Numbered (r : Rule) : Type 0 where
   pub number : ℕ
   pub first : 1 ≤ number
   pub most : number ≤ 8
-  pub is : rule_of number ≡ Known r
+  pub is : rule_of number ≡ Some r
 
-named : (k : Kind) (s : Side) (n : ℕ) → 1 ≤ n → n ≤ 8 → rule_of n ≡ Known (rule_on k s) → Numbered (rule_on k s)
+named : (k : Kind) (s : Side) (n : ℕ) → 1 ≤ n → n ≤ 8 → rule_of n ≡ Some (rule_on k s) → Numbered (rule_on k s)
 named k s n i j e = record { number = n; first = i; most = j; is = e }
 
 numbered-on : (k : Kind) (s : Side) → Numbered (rule_on k s)
@@ -160,12 +158,12 @@ rule-numbered r = numbered-on r.kind r.side
 
 -- where a search finds nothing, no test passes
 module _ (test : ℕ → ℕ → Bool) where
-  found-not : {X : Type 0} (b : Bool) (v n : ℕ) (after : Next) → nothing (cond b (At v n) after) ≡ true
+  found-not : {X : Type 0} (b : Bool) (v n : ℕ) (after : Option (ℕ × ℕ)) → nothing (cond b (Some (v, n)) after) ≡ true
       → (b ≡ false → nothing after ≡ true → X) → X
   found-not true v n after e k = neither e refl
   found-not false v n after e k = k refl e
 
-  no-rule : (left v n : ℕ) (after : Next) → nothing (rules_from test left v n after) ≡ true
+  no-rule : (left v n : ℕ) (after : Option (ℕ × ℕ)) → nothing (rules_from test left v n after) ≡ true
       → ((i : ℕ) → n ≤ i → i < n + left → test v i ≡ false) × (nothing after ≡ true)
   unfolding rules_from
   no-rule zero v n after e = (λ i p q. absurd (omega arith), e)

@@ -11,8 +11,6 @@ use Rattle.scope.specs.Tree.{Tree, true_height}
 use Rattle.scope.specs.Rules.{guard}
 use Rattle.scope.specs.Tidy.{holds_at, due_at, by_rule, passes, slots_from, next_of, nothing, quiet}
 use Rattle.scope.specs.declared.rule.Rule.{Rule}
-use Rattle.scope.specs.declared.rule.RuleIs.TheVariants.{Known}
-use Rattle.scope.specs.declared.outcome.Next.TheVariants.{Nothing}
 use Rattle.spelling.proofs.Laws.{header-count}
 use Rattle.spelling.specs.Whole.{Whole}
 use Rattle.tree.specs.Rewrite.{accept_at}
@@ -24,9 +22,10 @@ use Rattle.bridge.specs.Leads.{link_along}
 use Rattle.bridge.proofs.Resting.Quiets.{relaxed, rule-numbered, no_slot-found}
 use Rattle.bridge.proofs.Resting.Searches.{slots-none, known-rule}
 use Rattle.bridge.proofs.Resting.Meets.{holds-meets, meets-there, accepts-due}
+use Rattle.std.specs.Prelude.{Some, None}
 
 -- with the limit or without it, its guard holds
-guard-holds : (limited : Bool) (t : List ℕ) (c v : ℕ) (r : Rule) → by_rule limited t c v (Known r) ≡ true
+guard-holds : (limited : Bool) (t : List ℕ) (c v : ℕ) (r : Rule) → by_rule limited t c v (Some r) ≡ true
     → holds_at t c r v ≡ true
 unfolding due_at
 guard-holds true t c v r e = and_l _ _ e
@@ -36,7 +35,7 @@ module _ {t : List ℕ} {c : ℕ} (w : Whole t c) where
   abbrev T : Tree
   T = w.sound.tree
 
-  none_found : Quiet T → (limited : Bool) → slots_from (passes limited t c) c 1 ≡ Nothing
+  none_found : Quiet T → (limited : Bool) → slots_from (passes limited t c) c 1 ≡ None
   unfolding passes
   none_found q limited =
       slots-none (passes limited t c) c 1 (λ v n i j.
@@ -51,12 +50,12 @@ module _ {t : List ℕ} {c : ℕ} (w : Whole t c) where
   unfolding quiet
   quiet-words q = ap nothing (none_found q false)
 
-  pub next-none : Quiet T → next_of t c ≡ Nothing
+  pub next-none : Quiet T → next_of t c ≡ None
   unfolding next_of
   next-none q = none_found q true
 
   -- WHERE NO RULE IS DUE no guard holds
-  pub none-due : next_of t c ≡ Nothing → Quiet T
+  pub none-due : next_of t c ≡ None → Quiet T
   unfolding next_of passes
   none-due e =
       let low : true_height T ≤ most_height

@@ -13,14 +13,15 @@ use Rattle.scope.specs.Fit.{header_ok, record_ok}
 use Rattle.scope.specs.Answers.{Done, code_of, refusal, gate, answering}
 use Rattle.scope.specs.Walk.{step_of, on_step, none_passed, passing, walk_from, walk_of}
 use Rattle.scope.specs.Find.{found_in, find_answer}
-use Rattle.scope.specs.Post.{posting, posting_at, post_plan, posted, post_of, leaf_slot}
-use Rattle.scope.specs.Amend.{amending, amending_at, amend_plan, amended, amend_of}
-use Rattle.scope.specs.Drop.{leftmost_from, if_may, replacing, drop_at, dropping_at, dropping, drop_plan, dropped, drop_of}
+use Rattle.scope.specs.Post.{posting_at, post_plan, posted, post_of, leaf_slot}
+use Rattle.scope.specs.Answers.{and_then}
+use Rattle.scope.specs.Amend.{amending_at, amend_plan, amended, amend_of}
+use Rattle.scope.specs.Answers.{or_denied}
+use Rattle.scope.specs.Drop.{leftmost_from, if_may, replacing, drop_at, dropping_at, drop_plan, dropped, drop_of}
+use Rattle.scope.specs.Answers.{or_denied}
 use Rattle.scope.specs.declared.answer.Answer.{Answer}
 use Rattle.scope.specs.declared.answer.Refusal.{Refusal}
 use Rattle.scope.specs.declared.answer.Refusal.TheVariants.{KeyAbsent}
-use Rattle.scope.specs.declared.answer.Gate.{Gate}
-use Rattle.scope.specs.declared.answer.Gate.TheVariants.{Shut, Open}
 use Rattle.scope.specs.declared.side.Side.{Side}
 use Rattle.scope.specs.declared.side.Side.TheVariants.{Right}
 use Rattle.scope.specs.declared.side.Link.{Link}
@@ -30,9 +31,10 @@ use Rattle.scope.specs.declared.outcome.Step.TheVariants.{Here, Down, Broken}
 use Rattle.scope.specs.declared.outcome.Walk.{Walk}
 use Rattle.scope.specs.declared.outcome.Walk.TheVariants.{Hit, Miss, Damage}
 use Rattle.scope.specs.declared.outcome.Leftmost.{Leftmost}
-use Rattle.scope.specs.declared.outcome.Leftmost.TheVariants as leftmost
 use Rattle.scope.specs.declared.outcome.Dropping.{Dropping}
 use Rattle.scope.specs.declared.outcome.Dropping.TheVariants as dropping-is
+use Rattle.std.specs.Prelude.{Option, Some, None, Result, Ok, Err}
+use Rattle.scope.specs.declared.answer.Denial.{Denial}
 
 module _ (t : List ℕ) (c key : ℕ) where
   -- the walk of before: of a miss only the link and the visits
@@ -96,9 +98,9 @@ module _ (t : List ℕ) (key : ℕ) where
   found-quiet (Miss passed link seen) = refl
   found-quiet Damage = refl
 
-  on-gate : (g : Gate) → quieted (answering g (λ c. found_in t (walk_of t c key))) ≡ answering g (λ c. found_in t (silent_of t c key))
-  on-gate (Shut why) = quiet-refusal why
-  on-gate (Open c) = found-quiet (walk_of t c key) ∙ ap (found_in t) (walk_kept t c key)
+  on-gate : (g : Result ℕ Refusal) → quieted (answering g (λ c. found_in t (walk_of t c key))) ≡ answering g (λ c. found_in t (silent_of t c key))
+  on-gate (Err why) = quiet-refusal why
+  on-gate (Ok c) = found-quiet (walk_of t c key) ∙ ap (found_in t) (walk_kept t c key)
 
   pub find-kept : quieted (find_answer t key)
       ≡ answering (gate t (not (eqb key 0)) (λ c. header_ok c t)) (λ c. found_in t (silent_of t c key))
@@ -106,7 +108,7 @@ module _ (t : List ℕ) (key : ℕ) where
   find-kept = on-gate (gate t (not (eqb key 0)) (λ c. header_ok c t))
 
 module _ (t : List ℕ) (key pieces state : ℕ) where
-  abbrev of_record : Gate
+  abbrev of_record : Result ℕ Refusal
   of_record = gate t (record_ok key pieces state) (λ c. header_ok c t)
 
   -- POST
@@ -116,12 +118,12 @@ module _ (t : List ℕ) (key pieces state : ℕ) where
   posting-kept c (Miss passed link seen) = refl
   posting-kept c Damage = refl
 
-  on_post : (g : Gate) → posting g (λ c. posting_at t c (walk_of t c key)) ≡ posting g (λ c. posting_at t c (silent_of t c key))
-  on_post (Shut why) = refl
-  on_post (Open c) = posting-kept c (walk_of t c key) ∙ ap (posting_at t c) (walk_kept t c key)
+  on_post : (g : Result ℕ Refusal) → and_then g (λ c. posting_at t c (walk_of t c key)) ≡ and_then g (λ c. posting_at t c (silent_of t c key))
+  on_post (Err why) = refl
+  on_post (Ok c) = posting-kept c (walk_of t c key) ∙ ap (posting_at t c) (walk_kept t c key)
 
   pub post-kept : post_of t key pieces state
-      ≡ posted t (leaf_slot key pieces state) (posting of_record (λ c. posting_at t c (silent_of t c key)))
+      ≡ posted t (leaf_slot key pieces state) (and_then of_record (λ c. posting_at t c (silent_of t c key)))
   unfolding post_of post_plan
   post-kept = ap (posted t (leaf_slot key pieces state)) (on_post of_record)
 
@@ -132,38 +134,38 @@ module _ (t : List ℕ) (key pieces state : ℕ) where
   amending-quiet (Miss passed link seen) = refl
   amending-quiet Damage = refl
 
-  on-amend : (g : Gate) → quiet_done (amended t pieces state (amending g (λ c. amending_at t (walk_of t c key))))
-      ≡ amended t pieces state (amending g (λ c. amending_at t (silent_of t c key)))
+  on-amend : (g : Result ℕ Refusal) → quiet_done (amended t pieces state (or_denied g (λ c. amending_at t (walk_of t c key))))
+      ≡ amended t pieces state (or_denied g (λ c. amending_at t (silent_of t c key)))
   unfolding amended
-  on-amend (Shut why) = rw (quiet-refusal why) refl
-  on-amend (Open c) =
+  on-amend (Err why) = rw (quiet-refusal why) refl
+  on-amend (Ok c) =
       amending-quiet (walk_of t c key) ∙ ap (λ (w : Walk). amended t pieces state (amending_at t w)) (walk_kept t c key)
 
   pub amend-kept : quiet_done (amend_of t key pieces state)
-      ≡ amended t pieces state (amending of_record (λ c. amending_at t (silent_of t c key)))
+      ≡ amended t pieces state (or_denied of_record (λ c. amending_at t (silent_of t c key)))
   unfolding amend_of amend_plan
   amend-kept = on-amend of_record
 
 -- DROP: a plan for a record that was found is no absence
 module _ (t : List ℕ) where
-  abbrev Quiet : Dropping → Type 0
+  abbrev Quiet : Result Dropping Denial → Type 0
   Quiet plan = quiet_done (dropped t plan) ≡ dropped t plan
 
-  may-quiet : (plan : Dropping) → Quiet plan → Quiet (if_may t plan)
+  may-quiet : (plan : Dropping) → Quiet (Ok plan) → Quiet (if_may t plan)
   unfolding if_may dropped
   may-quiet plan q =
       by_bool (eqb (word t count_word) 0)
       (λ p. rw p refl)
       (λ p. rw p (by_bool (ltb (word t change_word) last_change) (λ r. rw r q) (λ r. rw r refl)))
 
-  lift-quiet : (slot : ℕ) (link : Link) (son : ℕ) → Quiet (dropping-is.Lift slot link son)
+  lift-quiet : (slot : ℕ) (link : Link) (son : ℕ) → Quiet (Ok (dropping-is.Lift slot link son))
   unfolding dropped
   lift-quiet slot link son = refl
 
-  replacing-quiet : (slot : ℕ) (l : Leftmost) → Quiet (replacing t slot l)
+  replacing-quiet : (slot : ℕ) (l : Option Leftmost) → Quiet (replacing t slot l)
   unfolding dropped
-  replacing-quiet slot leftmost.Broken = refl
-  replacing-quiet slot (leftmost.Is least link) = may-quiet (dropping-is.Replace slot least link) refl
+  replacing-quiet slot None = refl
+  replacing-quiet slot (Some m) = may-quiet (dropping-is.Replace slot m.slot m.link) refl
 
   drop-at-quiet : (c slot : ℕ) (link : Link) (seen : ℕ) → Quiet (drop_at t c slot link seen)
   unfolding drop_at
@@ -182,14 +184,14 @@ module _ (t : List ℕ) where
   dropping-quiet c Damage = unfold dropped in refl
 
   module _ (key : ℕ) where
-    on-drop : (g : Gate) → quiet_done (dropped t (dropping g (λ c. dropping_at t c (walk_of t c key))))
-        ≡ dropped t (dropping g (λ c. dropping_at t c (silent_of t c key)))
+    on-drop : (g : Result ℕ Refusal) → quiet_done (dropped t (or_denied g (λ c. dropping_at t c (walk_of t c key))))
+        ≡ dropped t (or_denied g (λ c. dropping_at t c (silent_of t c key)))
     unfolding dropped
-    on-drop (Shut why) = rw (quiet-refusal why) refl
-    on-drop (Open c) =
+    on-drop (Err why) = rw (quiet-refusal why) refl
+    on-drop (Ok c) =
         dropping-quiet c (walk_of t c key) ∙ ap (λ (w : Walk). dropped t (dropping_at t c w)) (walk_kept t c key)
 
     pub drop-kept : quiet_done (drop_of t key)
-        ≡ dropped t (dropping (gate t (not (eqb key 0)) (λ c. header_ok c t)) (λ c. dropping_at t c (silent_of t c key)))
+        ≡ dropped t (or_denied (gate t (not (eqb key 0)) (λ c. header_ok c t)) (λ c. dropping_at t c (silent_of t c key)))
     unfolding drop_of drop_plan
     drop-kept = on-drop (gate t (not (eqb key 0)) (λ c. header_ok c t))

@@ -10,36 +10,29 @@ use Rattle.scope.specs.Table.{word, slots_in, slot_at, link_at, son}
 use Rattle.scope.specs.Fit.{fit_slot, header_ok}
 use Rattle.scope.specs.Answers.{code_of}
 use Rattle.scope.specs.Rules.{guard_at, highest_at}
-use Rattle.scope.specs.Fire.{has_third, take_of, on_taken, judged, aim_w, aim_u, aim_v, aim, aimed, on_rule, on_link, firing_in, fire_plan, fired, fire_of}
+use Rattle.scope.specs.Fire.{has_third, take_of, judged, aim_w, aim_u, aim_v, aim, aimed, fire_plan, fired, fire_of}
+use Rattle.scope.specs.Answers.{and_then, if_named, on_slots}
 use Rattle.scope.specs.Calls.{Fire}
 use Rattle.scope.specs.declared.answer.Refusal.{Refusal}
 use Rattle.scope.specs.declared.answer.Refusal.TheVariants.{WrongLength, OutOfRange, Damaged, GuardFails, TooHigh}
 use Rattle.scope.specs.declared.slot.Slot.{Slot}
-use Rattle.scope.specs.declared.slots.SlotsIs.{SlotsIs}
-use Rattle.scope.specs.declared.slots.SlotsIs.TheVariants.{Within, Outside}
 use Rattle.scope.specs.declared.rule.Rule.{Rule}
-use Rattle.scope.specs.declared.rule.RuleIs.{RuleIs}
-use Rattle.scope.specs.declared.rule.RuleIs.TheVariants as rule-is
 use Rattle.scope.specs.declared.side.Link.{Link}
-use Rattle.scope.specs.declared.side.LinkIs.{LinkIs}
-use Rattle.scope.specs.declared.side.LinkIs.TheVariants as link-is
-use Rattle.scope.specs.declared.outcome.Taken.{Taken}
-use Rattle.scope.specs.declared.outcome.Taken.TheVariants.{Got, Not}
 use Rattle.scope.specs.declared.outcome.Nodes.{Nodes}
-use Rattle.scope.specs.declared.outcome.Firing.{Firing}
-use Rattle.scope.specs.declared.outcome.Firing.TheVariants as firing
 use Rattle.demands.specs.Listed.{codes_bare, among, Answered, accepts, refuses}
 use Rattle.demands.proofs.First.Refusals.{either}
+use Rattle.std.specs.Prelude.{Option, Some, None, Result, Ok, Err}
+use Rattle.scope.specs.declared.slots.Slots.{Slots}
 
 -- fire: its slots, its guard and its limit
-data Takes : Taken → Type 0 where
-  got : {s : Slot} → Takes (Got s)
-  missing : Takes (Not GuardFails)
-  unfit : Takes (Not Damaged)
+data Takes : Result Slot Refusal → Type 0 where
+  got : {s : Slot} → Takes (Ok s)
+  missing : Takes (Err GuardFails)
+  unfit : Takes (Err Damaged)
 
-data FiresListed (listed : List ℕ) : Firing → Type 0 where
-  not_fire : (why : Refusal) → among (code_of why) listed ≡ true → FiresListed listed (firing.Refuse why)
-  fires : {r : Rule} {n : Nodes} → FiresListed listed (firing.Fire r n)
+data FiresListed (listed : List ℕ) : Result (Rule × Nodes) Refusal → Type 0 where
+  not_fire : (why : Refusal) → among (code_of why) listed ≡ true → FiresListed listed (Err why)
+  fires : {r : Rule} {n : Nodes} → FiresListed listed (Ok (r, n))
 
 module _ (t : List ℕ) (rule holder side : ℕ) where
   abbrev listed : List ℕ
@@ -51,7 +44,8 @@ module _ (t : List ℕ) (rule holder side : ℕ) where
       either Takes (eqb k 0) missing
       (either Takes (fit_slot c (slot_at t k) && not (eqb k a) && not (eqb k b) && not (eqb k e)) got unfit)
 
-  taken : (x : Taken) (f : Slot → Firing) → Takes x → ((s : Slot) → FiresListed listed (f s)) → FiresListed listed (on_taken x f)
+  taken : (x : Result Slot Refusal) (f : Slot → Result (Rule × Nodes) Refusal) → Takes x
+      → ((s : Slot) → FiresListed listed (f s)) → FiresListed listed (and_then x f)
   taken x f (got {s = s}) h = h s
   taken x f missing h = not_fire GuardFails refl
   taken x f unfit h = not_fire Damaged refl
@@ -86,17 +80,17 @@ module _ (t : List ℕ) (rule holder side : ℕ) where
         (either (FiresListed listed) (fit_slot c (slot_at t link.holder)) v-may (not_fire Damaged refl))))
         (not_fire Damaged refl)
 
-  named : (c : ℕ) (a : RuleIs) (b : LinkIs) → FiresListed listed (on_rule a (λ r. on_link b (λ l. aimed t c r l)))
-  named c rule-is.Unknown b = not_fire OutOfRange refl
-  named c (rule-is.Known r) link-is.Unknown = not_fire OutOfRange refl
-  named c (rule-is.Known r) (link-is.Known l) = aimed-may c r l
+  named : (c : ℕ) (a : Option Rule) (b : Option Link) → FiresListed listed (if_named a (λ r. if_named b (λ l. aimed t c r l)))
+  named c None b = not_fire OutOfRange refl
+  named c (Some r) None = not_fire OutOfRange refl
+  named c (Some r) (Some l) = aimed-may c r l
 
-  planned : (s : SlotsIs) → FiresListed listed (firing_in s
-      (λ c. on_rule (rule_of rule) (λ r. on_link (link_of c holder side) (λ l. aimed t c r l))))
-  planned Outside = not_fire WrongLength refl
-  planned (Within s) = named s.count (rule_of rule) (link_of s.count holder side)
+  planned : (s : Option Slots) → FiresListed listed (on_slots s
+      (λ c. if_named (rule_of rule) (λ r. if_named (link_of c holder side) (λ l. aimed t c r l))))
+  planned None = not_fire WrongLength refl
+  planned (Some s) = named s.count (rule_of rule) (link_of s.count holder side)
 
-  ends : (f : Firing) → FiresListed listed f → Answered (Fire rule holder side) t (fired t f)
+  ends : (f : Result (Rule × Nodes) Refusal) → FiresListed listed f → Answered (Fire rule holder side) t (fired t f)
   unfolding fired
   ends f (not_fire why e) = refuses why e
   ends f fires = accepts refl

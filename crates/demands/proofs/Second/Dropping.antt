@@ -32,6 +32,8 @@ use Rattle.demands.proofs.Open.{header-gate, walk-tree}
 use Rattle.ledger.proofs.Entries.{map_entry, without-entries}
 use Rattle.demands.proofs.Second.Answers.{lookup-is}
 use Rattle.demands.proofs.Second.Amending.{both-refuse, both-lack}
+use Rattle.std.specs.Prelude.{Ok}
+use Rattle.scope.specs.declared.answer.Denial.{Denial}
 
 module _ {t : List ℕ} {c : ℕ} (w : Whole t c) (key : ℕ) where
   abbrev T : Tree
@@ -67,7 +69,7 @@ module _ {t : List ℕ} {c : ℕ} (w : Whole t c) (key : ℕ) where
           ledger = rw (es, dropped-change w key d found k f) refl;
         }
 
-    planned : (plan : Dropping) → Plans t c l (end_of key T) plan → AsLedger (dropped t plan) c next
+    planned : (plan : Dropping) → Plans t c l (end_of key T) plan → AsLedger (dropped t (Ok plan)) c next
     unfolding dropped
     planned plan (lifts f) = done _ _ f
     planned plan (moves f) = done _ _ f

@@ -10,21 +10,13 @@ use borrow.Author.Tests.{eqb-true, ne_eqb, le-ltb}
 use Rattle.scope.proofs.Bools.{by_bool, never}
 use Rattle.scope.specs.Numbers.{root_link, side_of, link_of, known_link, rule_of}
 use Rattle.scope.specs.Table.{word, link_at}
-use Rattle.scope.specs.Fire.{aim, aimed, on_rule, on_link, fire_plan, fired, fire_of}
+use Rattle.scope.specs.Fire.{aim, aimed, fire_plan, fired, fire_of}
+use Rattle.scope.specs.Answers.{if_named}
 use Rattle.scope.specs.Tidy.{link_to, next_of}
 use Rattle.scope.specs.declared.rule.Rule.{Rule}
-use Rattle.scope.specs.declared.rule.RuleIs.{RuleIs}
-use Rattle.scope.specs.declared.rule.RuleIs.TheVariants as rule-is
 use Rattle.scope.specs.declared.side.Side.{Side}
 use Rattle.scope.specs.declared.side.Side.TheVariants.{Left, Right}
-use Rattle.scope.specs.declared.side.SideIs.{SideIs}
-use Rattle.scope.specs.declared.side.SideIs.TheVariants as side-is
 use Rattle.scope.specs.declared.side.Link.{Link}
-use Rattle.scope.specs.declared.side.LinkIs.{LinkIs}
-use Rattle.scope.specs.declared.side.LinkIs.TheVariants as link-is
-use Rattle.scope.specs.declared.outcome.Next.TheVariants.{At}
-use Rattle.scope.specs.declared.outcome.Firing.{Firing}
-use Rattle.scope.specs.declared.outcome.Firing.TheVariants.{Refuse, Fire}
 use Rattle.spelling.specs.Whole.{Whole}
 use Rattle.bridge.specs.Leads.{side_number}
 use Rattle.bridge.proofs.Firing.Along.{hangs-along}
@@ -39,9 +31,12 @@ use Rattle.bridge.proofs.Resting.Searches.{next-first}
 use Rattle.demands.specs.Fires.{Trial, Accepted}
 use Rattle.demands.specs.Tidying.{DueTrial}
 use Rattle.demands.proofs.Open.{some-code}
+use Rattle.std.specs.Prelude.{Option, Some, None, Result, Ok, Err}
+use Rattle.scope.specs.declared.answer.Refusal.{Refusal}
+use Rattle.scope.specs.declared.outcome.Nodes.{Nodes}
 
 -- numbers that name a link are its own
-side-numbers : (n : ℕ) (s : Side) → side_of n ≡ side-is.Known s → side_number s ≡ n
+side-numbers : (n : ℕ) (s : Side) → side_of n ≡ Some s → side_number s ≡ n
 unfolding side_of
 side-numbers n s e =
     by_bool (eqb n 0)
@@ -50,17 +45,17 @@ side-numbers n s e =
     (λ h. let q = simp (p, h) at e in let z = eqb-true n 1 h in cc)
     (λ h. let q = simp (p, h) at e in never cc))
 
-known-numbers : (holder n : ℕ) (i : SideIs) (l : Link) → side_of n ≡ i → known_link holder n i ≡ link-is.Known l
+known-numbers : (holder n : ℕ) (i : Option Side) (l : Link) → side_of n ≡ i → known_link holder n i ≡ Some l
     → (holder ≡ l.holder) × (n ≡ side_number l.side)
-known-numbers holder n side-is.Unknown l e q = never cc
-known-numbers holder n (side-is.Known s) l e q =
+known-numbers holder n None l e q = never cc
+known-numbers holder n (Some s) l e q =
     by_bool (eqb holder 0 && not (eqb n 0))
     (λ p. let x = simp p at q in never cc)
     (λ p. let x = simp p at q in
     let is : record { holder = holder; side = s } ≡ l = cc in
     rw (← is) (refl, sym (side-numbers n s e)))
 
-link-numbers : (c holder side : ℕ) (l : Link) → link_of c holder side ≡ link-is.Known l
+link-numbers : (c holder side : ℕ) (l : Link) → link_of c holder side ≡ Some l
     → (holder ≡ l.holder) × (side ≡ side_number l.side)
 unfolding link_of
 link-numbers c holder side l e =
@@ -70,17 +65,17 @@ link-numbers c holder side l e =
 
 -- a link of a table has its numbers
 some-holder : (c k : ℕ) (s : Side) → k ≤ c → (k ≡ 0 → ⊥)
-    → link_of c k (side_number s) ≡ link-is.Known (record { holder = k; side = s })
+    → link_of c k (side_number s) ≡ Some (record { holder = k; side = s })
 unfolding link_of side_of
 some-holder c k Left h ne = rw (le-ltb c k h, ne_eqb k 0 ne) refl
 some-holder c k Right h ne = rw (le-ltb c k h, ne_eqb k 0 ne) refl
 
-root-known : (c : ℕ) → link_of c 0 0 ≡ link-is.Known root_link
+root-known : (c : ℕ) → link_of c 0 0 ≡ Some root_link
 unfolding link_of side_of
 root-known c = rw (le-ltb c 0 (omega arith)) refl
 
 pub link-known : (c : ℕ) (l : Link) → l.holder ≤ c → (l.holder ≡ 0 → l ≡ root_link)
-    → link_of c l.holder (side_number l.side) ≡ link-is.Known l
+    → link_of c l.holder (side_number l.side) ≡ Some l
 link-known c l h r =
     elim (ℕ_discrete l.holder 0) [
       | yes z ↦ rw (r z) (root-known c)
@@ -89,8 +84,8 @@ link-known c l h r =
 
 module _ {t : List ℕ} {c : ℕ} (w : Whole t c) where
   -- the slot at the link, and that its link is found
-  at-link : (x : Trial) (r : Rule) (l : Link) → rule_of x.rule ≡ rule-is.Known r
-      → link_of c x.holder x.side ≡ link-is.Known l → FiresDue t c r l → DueTrial t c x
+  at-link : (x : Trial) (r : Rule) (l : Link) → rule_of x.rule ≡ Some r
+      → link_of c x.holder x.side ≡ Some l → FiresDue t c r l → DueTrial t c x
   at-link x r l a b f =
       let v = word t (link_at l) in
       let i = link-in c x.holder x.side l b in
@@ -105,17 +100,17 @@ module _ {t : List ℕ} {c : ℕ} (w : Whole t c) where
         is = rw same (λ k. record { rule = x.rule; holder = n.0 k; side = n.1 k });
       }
 
-  aims-out : (r : Rule) (l : Link) (f : Firing) → aim t c r l ≡ f → (fired t f).answer.code ≡ 0 → FiresDue t c r l
+  aims-out : (r : Rule) (l : Link) (f : Result (Rule × Nodes) Refusal) → aim t c r l ≡ f → (fired t f).answer.code ≡ 0 → FiresDue t c r l
   unfolding fired
-  aims-out r l (Refuse why) e z = absurd (some-code why z)
-  aims-out r l (Fire q n) e z = fires-so q n t c r l e
+  aims-out r l (Err why) e z = absurd (some-code why z)
+  aims-out r l (Ok (q, n)) e z = fires-so q n t c r l e
 
-  named : (x : Trial) (a : RuleIs) (b : LinkIs) → rule_of x.rule ≡ a → link_of c x.holder x.side ≡ b
-      → (fired t (on_rule a (λ r. on_link b (λ l. aimed t c r l)))).answer.code ≡ 0 → DueTrial t c x
+  named : (x : Trial) (a : Option Rule) (b : Option Link) → rule_of x.rule ≡ a → link_of c x.holder x.side ≡ b
+      → (fired t (if_named a (λ r. if_named b (λ l. aimed t c r l)))).answer.code ≡ 0 → DueTrial t c x
   unfolding fired aimed
-  named x rule-is.Unknown b p q e = absurd (omega arith)
-  named x (rule-is.Known r) link-is.Unknown p q e = absurd (omega arith)
-  named x (rule-is.Known r) (link-is.Known l) p q e =
+  named x None b p q e = absurd (omega arith)
+  named x (Some r) None p q e = absurd (omega arith)
+  named x (Some r) (Some l) p q e =
       at-link x r l p q (aims-out r l (aim t c r l) refl (rw w.sound.header at e))
 
   -- WHAT FIRE ACCEPTS IS DUE, at the slot whose link it names
@@ -125,5 +120,5 @@ module _ {t : List ℕ} {c : ℕ} (w : Whole t c) where
       named x (rule_of x.rule) (link_of c x.holder x.side) refl refl (rw (sized-slots w.sized) at e)
 
   -- THE RULE THAT IS NEXT COMES FIRST of all that are due: no lower slot, and no lower rule at the same slot
-  pub first-accepted : (v n : ℕ) → next_of t c ≡ At v n → (x : Trial) (d : DueTrial t c x) → NotAfter v n d.slot x.rule
+  pub first-accepted : (v n : ℕ) → next_of t c ≡ Some (v, n) → (x : Trial) (d : DueTrial t c x) → NotAfter v n d.slot x.rule
   first-accepted v n q x d = next-first t c v n q d.slot x.rule d.due

@@ -2,6 +2,7 @@
 use Prim.Native.Nat.{ℕ}
 use mathlib.Core.Path.{◌≡◌, refl, sym, ◌∙◌, ap}
 use mathlib.Core.Option.{Option, none, some}
+use Rattle.std.specs.Prelude as prelude
 use mathlib.Core.Bool.{true}
 use mathlib.Core.List.{List, [], ◌∷◌}
 use native.Mathlib.Omega.{arith}
@@ -11,16 +12,11 @@ use Rattle.scope.specs.Table.{word, change_word}
 use Rattle.scope.specs.Tree.{Tree}
 use Rattle.scope.specs.Sound.{tree_in}
 use Rattle.scope.specs.Answers.{Done, code_of, accepted, refused}
-use Rattle.scope.specs.Fire.{aim, aimed, on_rule, on_link, fire_plan, fired, fire_of}
+use Rattle.scope.specs.Fire.{aim, aimed, fire_plan, fired, fire_of}
+use Rattle.scope.specs.Answers.{if_named}
 use Rattle.scope.specs.declared.answer.Answer.{Answer}
 use Rattle.scope.specs.declared.answer.Refusal.{Refusal}
 use Rattle.scope.specs.declared.answer.Refusal.TheVariants.{OutOfRange, GuardFails, TooHigh}
-use Rattle.scope.specs.declared.rule.RuleIs.{RuleIs}
-use Rattle.scope.specs.declared.rule.RuleIs.TheVariants as rule-is
-use Rattle.scope.specs.declared.side.LinkIs.{LinkIs}
-use Rattle.scope.specs.declared.side.LinkIs.TheVariants as link-is
-use Rattle.scope.specs.declared.outcome.Firing.{Firing}
-use Rattle.scope.specs.declared.outcome.Firing.TheVariants.{Refuse, Fire}
 use Rattle.spelling.specs.Whole.{Whole}
 use Rattle.tree.proofs.Rest.Quiet.{accepted-fires}
 use Rattle.tree.proofs.Firing.Steps.{no-tree}
@@ -32,6 +28,10 @@ use Rattle.demands.specs.Listed.{among}
 use Rattle.demands.specs.Fires.{Trial, tried_on}
 use Rattle.demands.specs.Firing.{Named, NamedPlace, guarded, limited, Enabled, OverLimit, NoGuard, FireIs}
 use Rattle.demands.proofs.Open.{own_tree, some-code}
+use Rattle.std.specs.Prelude.{Some, None, Result, Ok, Err}
+use Rattle.scope.specs.declared.rule.Rule.{Rule}
+use Rattle.scope.specs.declared.side.Link.{Link}
+use Rattle.scope.specs.declared.outcome.Nodes.{Nodes}
 
 -- how a rule ends at a place of the tree T: g is what comes of it by its guard alone, o with the limit too
 data Ends (t : List ℕ) (c : ℕ) (T : Tree) (g o : Option Tree) (d : Done) : Type 0 where
@@ -40,14 +40,14 @@ data Ends (t : List ℕ) (c : ℕ) (T : Tree) (g o : Option Tree) (d : Done) : T
   high : (T' : Tree) → g ≡ some T' → o ≡ none → d ≡ refused t TooHigh → Ends t c T g o d
   fails : g ≡ none → o ≡ none → d ≡ refused t GuardFails → Ends t c T g o d
 
-ends : {t : List ℕ} {c : ℕ} {T : Tree} (g o : Option Tree) (f : Firing) → Alike t (λ T' t'. Fired t t' c T T') g o f
+ends : {t : List ℕ} {c : ℕ} {T : Tree} (g o : Option Tree) (f : Result (Rule × Nodes) Refusal) → Alike t (λ T' t'. Fired t t' c T T') g o f
     → Ends t c T g o (fired t f)
 unfolding fired
-ends none none (Refuse why) guard_fails = fails refl refl refl
-ends (some T') none (Refuse why) too_high = high T' refl refl refl
-ends g none (Fire r n) a = absurd a
-ends g (some T') (Refuse why) a = absurd a
-ends g (some T') (Fire r n) a = done T' refl refl a
+ends none none (Err why) guard_fails = fails refl refl refl
+ends (some T') none (Err why) too_high = high T' refl refl refl
+ends g none (Ok (r, n)) a = absurd a
+ends g (some T') (Err why) a = absurd a
+ends g (some T') (Ok (r, n)) a = done T' refl refl a
 
 abbrev code : {d e : Done} → d ≡ e → d.answer.code ≡ e.answer.code
 code = ap (λ (y : Done). y.answer.code)
@@ -148,7 +148,7 @@ module _ {t : List ℕ} {c : ℕ} (w : Whole t c) (x : Trial) where
   same-link : (n m : Named c x) → n.link ≡ m.link
   same-link n m = let e = sym n.is_link ∙ m.is_link in cc
 
-  link-case : (n : Named c x) (f : Firing) → FireEnds t c (tree_in t c) n.rule n.link f → d ≡ fired t f
+  link-case : (n : Named c x) (f : Result (Rule × Nodes) Refusal) → FireEnds t c (tree_in t c) n.rule n.link f → d ≡ fired t f
       → Case t c x d
   unfolding fired
   link-case n f (at_way l a) e =
@@ -157,14 +157,14 @@ module _ {t : List ℕ} {c : ℕ} (w : Whole t c) (x : Trial) where
       let nowhere : NamedPlace t c x → ⊥ = λ p. none-leads (rw (same-link n p.named) p.leads) in
       no_guard (record { named = n; fails = λ p. absurd (nowhere p) }) e
 
-  named-case : (a : RuleIs) (b : LinkIs) → rule_of x.rule ≡ a → link_of c x.holder x.side ≡ b
-      → d ≡ fired t (on_rule a (λ r. on_link b (λ l. aimed t c r l))) → Case t c x d
+  named-case : (a : prelude.Option Rule) (b : prelude.Option Link) → rule_of x.rule ≡ a → link_of c x.holder x.side ≡ b
+      → d ≡ fired t (if_named a (λ r. if_named b (λ l. aimed t c r l))) → Case t c x d
   unfolding fired
-  named-case rule-is.Unknown b p q e =
+  named-case None b p q e =
       not_named (λ n. let y = sym p ∙ n.is_rule in never cc) e
-  named-case (rule-is.Known r) link-is.Unknown p q e =
+  named-case (Some r) None p q e =
       not_named (λ n. let y = sym q ∙ n.is_link in never cc) e
-  named-case (rule-is.Known r) (link-is.Known l) p q e =
+  named-case (Some r) (Some l) p q e =
       link-case (record { rule = r; link = l; is_rule = p; is_link = q }) (aimed t c r l)
       (fire-ends (own_tree w) r l (link-in c x.holder x.side l q)) e
 

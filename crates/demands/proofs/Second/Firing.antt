@@ -12,7 +12,6 @@ use Rattle.scope.specs.Sound.{Spells, tree_in}
 use Rattle.scope.specs.Answers.{Done, accepted, gate}
 use Rattle.scope.specs.Find.{start_of}
 use Rattle.scope.specs.Calls.{Fire}
-use Rattle.scope.specs.declared.answer.Gate.TheVariants.{Open}
 use Rattle.spelling.specs.Ready.{Sized}
 use Rattle.spelling.specs.Whole.{Whole}
 use Rattle.spelling.proofs.Spell.{only-tree}
@@ -25,6 +24,7 @@ use Rattle.demands.specs.Ledgers.{ledger_of}
 use Rattle.demands.proofs.Open.{gate-is}
 use Rattle.demands.proofs.First.Listed.{refused-words}
 use Rattle.demands.proofs.Second.Exact.{fire-exact}
+use Rattle.std.specs.Prelude.{Ok}
 
 -- sound again, and the same ledger
 pub record SameLedger (t : List ℕ) (c : ℕ) (d : Done) : Type 0 where
@@ -78,6 +78,6 @@ zeros-started c z =
 pub start-ledger : {t : List ℕ} {c : ℕ} → Sized t c → Started c (start_of t)
 unfolding start_of
 start-ledger {t} {c} z =
-    let opens : gate t true (λ n. true) ≡ Open c = gate-is (λ n. true) z refl true in
+    let opens : gate t true (λ n. true) ≡ Ok c = gate-is (λ n. true) z refl true in
     rw (opens, ← z.room)
     (zeros-started c (record { room = sym (length-replicate (table_words c) 0); some = z.some; most = z.most }))

@@ -6,7 +6,6 @@ use Rattle.scope.specs.Numbers.{most_height}
 use Rattle.scope.specs.Sound.{tree_in}
 use Rattle.scope.specs.Answers.{Done}
 use Rattle.scope.specs.Tidy.{next_of}
-use Rattle.scope.specs.declared.outcome.Next.TheVariants.{Nothing}
 use Rattle.spelling.specs.Whole.{Whole}
 use Rattle.tree.proofs.Firing.Steps.{no-tree}
 use Rattle.tree.proofs.Rest.Quiet.{accepted-fires}
@@ -17,6 +16,7 @@ use Rattle.demands.proofs.Open.{own_tree}
 use Rattle.demands.proofs.Second.Exact.{fire-exact}
 use Rattle.demands.proofs.Second.Due.{accepted-due, first-accepted}
 use Rattle.demands.proofs.Second.Tidying.{due-tried, next-fires}
+use Rattle.std.specs.Prelude.{None}
 
 module _ {t : List ℕ} {c : ℕ} (w : Whole t c) where
   abbrev code : Done → ℕ
@@ -26,7 +26,7 @@ module _ {t : List ℕ} {c : ℕ} (w : Whole t c) where
   due-accepted x d = ap (λ (y : Trial). code (tried_on t y)) d.is ∙ ap code (due-tried w d.slot x.rule d.due)
 
   -- WHERE NOTHING IS NEXT, fire accepts nothing
-  none-accepted : next_of t c ≡ Nothing → (x : Trial) → Accepted t x → ⊥
+  none-accepted : next_of t c ≡ None → (x : Trial) → Accepted t x → ⊥
   none-accepted e x z =
       let f = (fire-exact w x).accepts.only_if z in
       let way = f.at.leads.way in

@@ -13,9 +13,6 @@ use Rattle.scope.specs.Fire.{aimed, fire_plan, fired, fire_of}
 use Rattle.scope.specs.Tidy.{nodes_at, link_to, next_of, fired_at, quiet, tidy_from, rules_fired, tidied, tidy_of, tidy_answer, tidy_table}
 use Rattle.scope.specs.Calls.{answers, after}
 use Rattle.scope.specs.declared.answer.Answer.{Answer}
-use Rattle.scope.specs.declared.outcome.Next.{Next}
-use Rattle.scope.specs.declared.outcome.Next.TheVariants.{At, Nothing}
-use Rattle.scope.specs.declared.outcome.Firing.TheVariants.{Fire}
 use Rattle.spelling.specs.Whole.{Whole}
 use Rattle.tree.specs.Shape.{Quiet}
 use Rattle.bridge.specs.Leads.{side_number}
@@ -31,6 +28,7 @@ use Rattle.demands.specs.Tidying.{trial_at, rules_of, Firings, rests, spent, nex
 use Rattle.demands.proofs.Open.{sound-gate, rest-exactly}
 use Rattle.demands.proofs.Second.Due.{link-known}
 use Rattle.demands.proofs.Second.Firing.{SameLedger, fire-ledger}
+use Rattle.std.specs.Prelude.{Option, Some, None, Ok}
 
 -- A RULE THAT IS DUE is accepted by fire, which does what tidy does
 pub due-tried : {t : List ℕ} {c : ℕ} → Whole t c → (v n : ℕ) → Due t c v n
@@ -40,12 +38,12 @@ due-tried {t} {c} w v n d =
     let l = link_to t c v in
     let r = d.rule in
     let h = (link-to w v d.first d.most (v-some (due-meets d.due))).0 in
-    let plan : fire_plan t n l.holder (side_number l.side) ≡ Fire r (nodes_at t r l v)
+    let plan : fire_plan t n l.holder (side_number l.side) ≡ Ok (r, (nodes_at t r l v))
     = plan-is w n l.holder (side_number l.side) r l d.is (link-known c l h.most h.root)
     ∙ rw w.sound.header (due-fires w r v d.first d.most d.due) in
     rw (plan, d.is) refl
 
-pub next-fires : {t : List ℕ} {c : ℕ} → Whole t c → (v n : ℕ) → next_of t c ≡ At v n
+pub next-fires : {t : List ℕ} {c : ℕ} → Whole t c → (v n : ℕ) → next_of t c ≡ Some (v, n)
     → tried_on t (trial_at t c v n) ≡ record { answer = accepted (word t change_word) 0 0 0; words = fired_at t c v n }
 next-fires {t} {c} w v n e = due-tried w v n (next-due t c v n e)
 
@@ -56,13 +54,13 @@ record TidyRun (t : List ℕ) (c left made : ℕ) : Type 0 where
   count : (tidy_from left c t made).fired ≡ made + length trials
   rules : rules_fired left c t ≡ rules_of trials
 
-none_more : {left : ℕ} {t : List ℕ} {c made : ℕ} → next_of t c ≡ Nothing → TidyRun t c (suc left) made
+none_more : {left : ℕ} {t : List ℕ} {c made : ℕ} → next_of t c ≡ None → TidyRun t c (suc left) made
 unfolding tidy_from rules_fired
 none_more {left} {t} {c} {made} e =
     let is : tidy_from (suc left) c t made ≡ record { fired = made; words = t } = rw e refl in
     record { trials = []; firings = rw is (rests e); count = rw is (omega arith); rules = rw e refl }
 
-one_more : {left : ℕ} {t : List ℕ} {c made : ℕ} → Whole t c → (v n : ℕ) → next_of t c ≡ At v n
+one_more : {left : ℕ} {t : List ℕ} {c made : ℕ} → Whole t c → (v n : ℕ) → next_of t c ≡ Some (v, n)
     → TidyRun (fired_at t c v n) c left (made + 1) → TidyRun t c (suc left) made
 unfolding tidy_from rules_fired
 one_more {left} {t} {c} {made} w v n e on =
@@ -78,10 +76,10 @@ one_more {left} {t} {c} {made} w v n e on =
       rules = rw (e, on.rules) refl;
     }
 
-step : {left : ℕ} {t : List ℕ} {c made : ℕ} → Whole t c → (x : Next) → next_of t c ≡ x
+step : {left : ℕ} {t : List ℕ} {c made : ℕ} → Whole t c → (x : Option (ℕ × ℕ)) → next_of t c ≡ x
     → ((u : List ℕ) → Whole u c → TidyRun u c left (made + 1)) → TidyRun t c (suc left) made
-step w Nothing e again = none_more e
-step {left} {t} {c} w (At v n) e again =
+step w None e again = none_more e
+step {left} {t} {c} w (Some (v, n)) e again =
     let x = trial_at t c v n in
     let s = fire-ledger w x in
     one_more w v n e (again (fired_at t c v n) (rw (next-fires w v n e) at s.whole))

@@ -11,8 +11,6 @@ use Rattle.scope.specs.Answers.{Done, accepted}
 use Rattle.scope.specs.Worth.{largest_carry, largest_balance}
 use Rattle.scope.specs.Tidy.{next_of, quiet, tidy_answer, tidy_table}
 use Rattle.scope.specs.declared.answer.Answer.{Answer}
-use Rattle.scope.specs.declared.outcome.Next.{Next}
-use Rattle.scope.specs.declared.outcome.Next.TheVariants.{At, Nothing}
 use Rattle.spelling.specs.Whole.{Whole}
 use Rattle.spelling.proofs.Spell.{tree-in}
 use Rattle.tree.proofs.Worth.Bound.{worth-bound}
@@ -21,6 +19,7 @@ use Rattle.demands.specs.Fires.{worth_in, Trial, accepted_in}
 use Rattle.demands.specs.Tidying.{trial_at, Tidies, Stopped, all_spent, at_rest}
 use Rattle.demands.proofs.Third.Falls.{worth-falls-at, spends}
 use Rattle.demands.proofs.Second.Tidying.{next-fires, tidy-is, tidy-more}
+use Rattle.std.specs.Prelude.{Option, Some, None}
 
 -- the same reply to each is as many accepted ones
 all-accepted : (change : ℕ) (xs : List Trial) → accepted_in (map (λ x. accepted change 0 0 0) xs) ≡ length xs
@@ -36,17 +35,17 @@ module _ {t : List ℕ} {c : ℕ} (w : Whole t c) where
       rw (tree-in t c w.sound, ← w.sound.count) (worth-bound w.sound.tree)
 
   -- a rule that is due costs worth
-  next-worth : (v n : ℕ) → next_of t c ≡ At v n → 1 ≤ worth_in t c
+  next-worth : (v n : ℕ) → next_of t c ≡ Some (v, n) → 1 ≤ worth_in t c
   next-worth v n e =
       let x = trial_at t c v n in
       let code = ap (λ (d : Done). d.answer.code) (next-fires w v n e) in
       omega (arith, worth-falls-at w x code)
 
-  none_left : worth_in t c ≡ 0 → (x : Next) → next_of t c ≡ x → next_of t c ≡ Nothing
-  none_left z Nothing e = e
-  none_left z (At v n) e = absurd (omega (arith, next-worth v n e))
+  none_left : worth_in t c ≡ 0 → (x : Option (ℕ × ℕ)) → next_of t c ≡ x → next_of t c ≡ None
+  none_left z None e = e
+  none_left z (Some (v, n)) e = absurd (omega (arith, next-worth v n e))
 
-  rest-words : next_of t c ≡ Nothing → quiet t c ≡ true
+  rest-words : next_of t c ≡ None → quiet t c ≡ true
   rest-words e = quiet-words w (none-due w e)
 
 module _ {t : List ℕ} {c : ℕ} (w : Whole t c) (budget : ℕ) where
@@ -65,7 +64,7 @@ module _ {t : List ℕ} {c : ℕ} (w : Whole t c) (budget : ℕ) where
       let s = rw (does.run.table, does.run.replies) at (spends w does.trials) in
       omega (arith, s, value, all-accepted (word t change_word) does.trials)
 
-  ended : worth_in t c ≤ budget → Stopped u c (length does.trials) budget → next_of u c ≡ Nothing
+  ended : worth_in t c ≤ budget → Stopped u c (length does.trials) budget → next_of u c ≡ None
   ended h (at_rest e) = e
   ended h (all_spent e) = none_left does.run.whole (omega (arith, tidy-worth, value)) (next_of u c) refl
 

@@ -8,7 +8,7 @@ use Rattle.drop.proofs.relink.Goals as goal
 
 pub put_link-requires : goal.put_link-requires
 put_link-requires c =
-    let p = c.requires in (omega arith, link-lt _ _ _ p.sized p.held, omega arith)
+    let p = c.requires in (omega arith, link-lt _ _ _ p.sized p.held)
 
 pub returns-then-son-holder : goal.returns-then-son-holder
 unfolding relinked

@@ -9,11 +9,11 @@ relink-requires c =
       slots = p.placed.slots;
       sized = omega arith;
       held = p.inside.2;
-      below = simp (c.wide.ensures, c.slot_at-m.ensures) p.inside.3;
+      below = simp (c.slot_at-m.ensures) p.inside.3;
     }
 
 pub returns : goal.returns
 returns c =
     replaced-by _ _ _ c.records-count.ensures c.change-change.ensures _
-    c.slot_at-m.ensures c.wide.ensures c.take_record.ensures
+    c.slot_at-m.ensures c.take_record.ensures
     c.relink.ensures c.vacate.ensures

@@ -13,30 +13,26 @@ slot_at-s-requires c = let p = c.requires in in_table _ p.ready.sized p.first p.
 
 pub if_may-requires : goal.if_may-requires
 if_may-requires c =
-    let p = c.requires in (omega arith, aim-lift p (read-son p Right c.slot_at-s.ensures c.wide-right.ensures))
+    let p = c.requires in (omega arith, aim-lift p (read-son p Right c.slot_at-s.ensures))
 
 pub returns-then-left-eq0 : goal.returns-then-left-eq0
 unfolding drop_at
 returns-then-left-eq0 c =
     simp (
       sym c.slot_at-s.ensures,
-      sym c.wide-left.ensures,
-      sym c.wide-right.ensures,
       eq-eqb _ _ c.if-left-eq0.true,
     )
     c.if_may.ensures
 
 pub if_may-requires-then-right-eq0 : goal.if_may-requires-then-right-eq0
 if_may-requires-then-right-eq0 c =
-    let p = c.requires in (omega arith, aim-lift p (read-son p Left c.slot_at-s.ensures c.wide-left.ensures))
+    let p = c.requires in (omega arith, aim-lift p (read-son p Left c.slot_at-s.ensures))
 
 pub returns-then-right-eq0 : goal.returns-then-right-eq0
 unfolding drop_at
 returns-then-right-eq0 c =
     simp (
       sym c.slot_at-s.ensures,
-      sym c.wide-left.ensures,
-      sym c.wide-right.ensures,
       ne_eqb _ _ c.if-left-eq0.false,
       eq-eqb _ _ c.if-right-eq0.true,
     )
@@ -44,15 +40,13 @@ returns-then-right-eq0 c =
 
 pub replacing-requires : goal.replacing-requires
 replacing-requires c =
-    let p = c.requires in (p.ready, p.first, p.last, omega arith, read-son p Right c.slot_at-s.ensures c.wide-right.ensures)
+    let p = c.requires in (p.first, p.last, omega arith, read-son p Right c.slot_at-s.ensures)
 
 pub returns : goal.returns
 unfolding drop_at
 returns c =
     simp (
       sym c.slot_at-s.ensures,
-      sym c.wide-left.ensures,
-      sym c.wide-right.ensures,
       ne_eqb _ _ c.if-left-eq0.false,
       ne_eqb _ _ c.if-right-eq0.false,
     )

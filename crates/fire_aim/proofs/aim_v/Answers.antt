@@ -2,6 +2,7 @@
 use mathlib.Core.Path.{sym, ◌∙◌}
 use native.Mathlib.Omega.{arith}
 use Rattle.fire_aim.proofs.Aims.{aim-v-not, aim-v-near, aim-v-got}
+use Rattle.scope.proofs.Errs.{handed_on}
 use Rattle.spelling.proofs.Laws.{link-lt}
 use Rattle.fire_aim.proofs.aim_v.Goals as goal
 
@@ -13,13 +14,14 @@ take-requires c = let p = c.requires in (p.sized, rw c.link_at-v.ensures p.holds
 
 pub aim_u-requires : goal.aim_u-requires
 aim_u-requires c =
-    aim-v-near c.requires c.args.r _ c.link_at-v.ensures (sym c.take.ensures ∙ c.in-Got.is)
+    aim-v-near c.requires c.args.r _ c.link_at-v.ensures (sym c.take.ensures ∙ c.in_ok-sv.was)
 
-pub returns-in-Not : goal.returns-in-Not
-returns-in-Not c =
-    aim-v-not c.requires c.args.r _ c.link_at-v.ensures (sym c.take.ensures ∙ c.in-Not.is)
-
-pub returns-in-Got : goal.returns-in-Got
-returns-in-Got c =
+pub returns : goal.returns
+returns c =
     aim-v-got c.requires c.args.r _ c.link_at-v.ensures
-    (sym c.take.ensures ∙ c.in-Got.is) c.aim_u.ensures
+    (sym c.take.ensures ∙ c.in_ok-sv.was) c.aim_u.ensures
+
+pub returns-in_err-sv : goal.returns-in_err-sv
+returns-in_err-sv c =
+    rw (handed_on _ c.from_residual.ensures.1)
+    (aim-v-not c.requires c.args.r _ c.link_at-v.ensures (sym c.take.ensures ∙ c.in_err-sv.was))

@@ -7,37 +7,37 @@ use Rattle.in_order.proofs.Walks.{none-listed, left-room, has-place, right-room,
 use Rattle.in_order.proofs.+order_at_order_under.Goals as goal
 
 pub order_at-fork_at-f-requires : goal.order_at-fork_at-f-requires
-order_at-fork_at-f-requires t c = let pre = c.requires in in_reach pre.1.hangs (omega (arith, pre.0))
+order_at-fork_at-f-requires t c = in_reach c.requires.1.hangs c.requires.0
 
 pub order_at-overflow_sub-less : goal.order_at-overflow_sub-less
-order_at-overflow_sub-less t c = (forked c.requires.1.hangs (omega (arith, c.requires.0)) c.fork_at-f.ensures).some
+order_at-overflow_sub-less t c = (forked c.requires.1.hangs c.requires.0 c.fork_at-f.ensures).some
 
 pub order_at-order_under-here-requires : goal.order_at-order_under-here-requires
 order_at-order_under-here-requires t c =
-    let d = forked c.requires.1.hangs (omega (arith, c.requires.0)) c.fork_at-f.ensures in
+    let d = forked c.requires.1.hangs c.requires.0 c.fork_at-f.ensures in
     (omega (arith, c.decreases, d.some), left-room c.requires.1 d)
 
 pub order_at-offset_bounds-list-here : goal.order_at-offset_bounds-list-here
 order_at-offset_bounds-list-here t c =
     let free = has-place c.requires.1
-    (forked c.requires.1.hangs (omega (arith, c.requires.0)) c.fork_at-f.ensures)
+    (forked c.requires.1.hangs c.requires.0 c.fork_at-f.ensures)
     c.order_under-here.auto.list c.order_under-here.ensures in
     omega (arith, free)
 
 pub order_at-bounds-list-here : goal.order_at-bounds-list-here
 order_at-bounds-list-here t c =
-    has-place c.requires.1 (forked c.requires.1.hangs (omega (arith, c.requires.0)) c.fork_at-f.ensures) c.order_under-here.auto.list c.order_under-here.ensures
+    has-place c.requires.1 (forked c.requires.1.hangs c.requires.0 c.fork_at-f.ensures) c.order_under-here.auto.list c.order_under-here.ensures
 
 pub order_at-overflow_add-here : goal.order_at-overflow_add-here
 order_at-overflow_add-here t c =
     let free = has-place c.requires.1
-    (forked c.requires.1.hangs (omega (arith, c.requires.0)) c.fork_at-f.ensures)
+    (forked c.requires.1.hangs c.requires.0 c.fork_at-f.ensures)
     c.order_under-here.auto.list c.order_under-here.ensures in
     omega (arith, free)
 
 pub order_at-order_under-requires : goal.order_at-order_under-requires
 order_at-order_under-requires t c =
-    let d = forked c.requires.1.hangs (omega (arith, c.requires.0)) c.fork_at-f.ensures in
+    let d = forked c.requires.1.hangs c.requires.0 c.fork_at-f.ensures in
     let room = right-room c.requires.1 d c.order_under-here.auto.list c.order_under-here.ensures in
     (omega (arith, c.decreases, d.some), room)
 
@@ -49,7 +49,7 @@ order_at-shape_of-list t c =
 pub order_at-returns : goal.order_at-returns
 order_at-returns t c =
     listed_here c.requires.1
-    (forked c.requires.1.hangs (omega (arith, c.requires.0)) c.fork_at-f.ensures)
+    (forked c.requires.1.hangs c.requires.0 c.fork_at-f.ensures)
     c.order_under-here.auto.list c.order_under-here.ensures
     c.order_under.ensures
 

@@ -7,7 +7,7 @@ use Rattle.post.proofs.hang.Goals as goal
 
 pub put_link-requires : goal.put_link-requires
 put_link-requires c =
-    let p = c.requires in (omega arith, omega (arith, link-lt _ _ c.args.link p.placed.ready.sized p.held), omega arith)
+    let p = c.requires in (omega arith, omega (arith, link-lt _ _ c.args.link p.placed.ready.sized p.held))
 
 pub returns : goal.returns
 returns c =

@@ -6,15 +6,15 @@ use Rattle.post.proofs.post.Goals as goal
 
 pub hang-requires : goal.hang-requires
 hang-requires c =
-    rw c.in-Hang.is at c.plan_post.ensures.can
+    rw c.in-Ok.is at c.plan_post.ensures.can
 
-pub returns-in-Refuse : goal.returns-in-Refuse
+pub returns-in-Err : goal.returns-in-Err
 unfolding post_of posted
-returns-in-Refuse c =
-    carried (posted _ _) c.plan_post.ensures.is c.in-Refuse.is (c.refuse.ensures, refl)
+returns-in-Err c =
+    carried (posted _ _) c.plan_post.ensures.is c.in-Err.is (c.refuse.ensures, refl)
 
-pub returns-in-Hang : goal.returns-in-Hang
+pub returns-in-Ok : goal.returns-in-Ok
 unfolding post_of
-returns-in-Hang c =
-    carried (posted _ _) c.plan_post.ensures.is c.in-Hang.is
+returns-in-Ok c =
+    carried (posted _ _) c.plan_post.ensures.is c.in-Ok.is
     (rw c.leaf.ensures at c.hang.ensures)

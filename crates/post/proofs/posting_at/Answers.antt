@@ -5,8 +5,8 @@ use Rattle.post.proofs.posting_at.Goals as goal
 
 pub hang_at-requires : goal.hang_at-requires
 hang_at-requires c =
-    let i = rw c.in-Miss.is at c.requires.1 in
-    (c.requires.0, i.0, c.free_slot.ensures.most)
+    let i = rw c.in-Miss.is at c.requires in
+    (i.0, c.free_slot.ensures.most)
 
 pub returns-in-Damage : goal.returns-in-Damage
 unfolding posting_at

@@ -3,10 +3,10 @@ use Rattle.scope.specs.Sums.{ranked}
 use mathlib.Core.Path.{sym}
 use Rattle.rank.proofs.ranked.Goals as goal
 
-pub returns-in-At : goal.returns-in-At
+pub returns-in-Ok : goal.returns-in-Ok
 unfolding ranked
-returns-in-At c = simp (c.in-At.is, sym c.size.ensures, sym c.told.ensures)
+returns-in-Ok c = simp (c.in-Ok.is, sym c.told.ensures)
 
-pub returns-in-Past : goal.returns-in-Past
+pub returns-in-Err : goal.returns-in-Err
 unfolding ranked
-returns-in-Past c = simp (c.in-Past.is, sym c.refuse.ensures)
+returns-in-Err c = simp (c.in-Err.is, sym c.refuse.ensures)

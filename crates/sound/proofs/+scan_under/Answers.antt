@@ -2,52 +2,52 @@
 use native.Mathlib.Omega.{arith}
 use Rattle.sound.proofs.Along.{along-start, along-spent, along-refused, along-left}
 use Rattle.sound.proofs.Along.{along-spoiled, along-less, along-end, along-right}
-use Rattle.sound.proofs.Steps.{at_end, is-left}
+use Rattle.sound.proofs.Steps.{at_end}
 use Rattle.sound.proofs.+scan_under.Goals as goal
 
 pub scan-loop-few-init : goal.scan-loop-few-init
 scan-loop-few-init t c = let p = c.requires in along-start p.0 p.1
 
 pub scan-returns-then-few-eq0 : goal.scan-returns-then-few-eq0
-scan-returns-then-few-eq0 t c = along-spent c.loop-few.invariant _ c.if-few-eq0.true
+scan-returns-then-few-eq0 t c = along-spent c.loop-few.invariant c.args.m.now c.if-few-eq0.true
 
 pub scan-visit-requires : goal.scan-visit-requires
 scan-visit-requires t c = let v = c.loop-few.invariant in (v.there, v.scanning.looking)
 
-pub scan-returns-in-Refused : goal.scan-returns-in-Refused
-scan-returns-in-Refused t c =
-    along-refused c.loop-few.invariant _ (rw c.in-Refused.is at c.visit.ensures)
+pub scan-returns-in_err-here : goal.scan-returns-in_err-here
+scan-returns-in_err-here t c =
+    rw c.from_residual.ensures (along-refused c.loop-few.invariant c.args.m.now (rw c.in_err-here.was at c.visit.ensures))
 
-pub scan-under-n-requires : goal.scan-under-n-requires
-scan-under-n-requires t c =
+pub scan-under-requires : goal.scan-under-requires
+scan-under-requires t c =
     let v = c.loop-few.invariant in (
       omega (arith, c.decreases, v.fewer, c.if-few-eq0.false),
-      along-left v (rw c.in-Entered.is at c.visit.ensures),
+      along-left v (rw c.in_ok-here.was at c.visit.ensures),
     )
 
-pub scan-returns-then-n-eq-SPOILED : goal.scan-returns-then-n-eq-SPOILED
-scan-returns-then-n-eq-SPOILED t c =
+pub scan-returns-in_err-n : goal.scan-returns-in_err-n
+scan-returns-in_err-n t c =
     let v = c.loop-few.invariant in
-    let o = rw c.in-Entered.is at c.visit.ensures in
-    along-spoiled v o _ _ c.under-n.ensures _ c.if-n-eq-SPOILED.true
+    let o = rw c.in_ok-here.was at c.visit.ensures in
+    rw c.from_residual-in_err-n.ensures (along-spoiled v o c.args.m.now c.args.m.now (rw c.in_err-n.was at c.under.ensures))
 
-pub scan-returns-then-right-eq0 : goal.scan-returns-then-right-eq0
-scan-returns-then-right-eq0 t c =
+pub scan-returns-then-here-eq0 : goal.scan-returns-then-here-eq0
+scan-returns-then-here-eq0 t c =
     let v = c.loop-few.invariant in
-    let o = rw c.in-Entered.is at c.visit.ensures in
-    let some = c.if-few-eq0.false in along-end v o _ _ c.under-n.ensures c.if-n-eq-SPOILED.false some c.if-right-eq0.true
+    let o = rw c.in_ok-here.was at c.visit.ensures in
+    along-end v o _ _ (rw c.in_ok-n.was at c.under.ensures) c.if-few-eq0.false c.if-here-eq0.true
 
 pub scan-loop-few-smaller : goal.scan-loop-few-smaller
 scan-loop-few-smaller t c =
     let v = c.loop-few.invariant in
-    let o = rw c.in-Entered.is at c.visit.ensures in
-    let some = c.if-few-eq0.false in along-less v o _ _ c.under-n.ensures c.if-n-eq-SPOILED.false some
+    let o = rw c.in_ok-here.was at c.visit.ensures in
+    along-less v o _ _ (rw c.in_ok-n.was at c.under.ensures) c.if-few-eq0.false
 
 pub scan-loop-few-preserved : goal.scan-loop-few-preserved
 scan-loop-few-preserved t c =
     let v = c.loop-few.invariant in
-    let o = rw c.in-Entered.is at c.visit.ensures in
-    let some = c.if-few-eq0.false in along-right v o _ _ c.under-n.ensures c.if-n-eq-SPOILED.false some c.if-right-eq0.false
+    let o = rw c.in_ok-here.was at c.visit.ensures in
+    along-right v o _ _ (rw c.in_ok-n.was at c.under.ensures) c.if-few-eq0.false c.if-here-eq0.false
 
 pub under-scan-requires : goal.under-scan-requires
 under-scan-requires t c =
@@ -55,7 +55,7 @@ under-scan-requires t c =
 
 pub under-returns-then-x-eq0 : goal.under-returns-then-x-eq0
 under-returns-then-x-eq0 t c =
-    is-left _ _ _ _ _ _ _ _ c.requires.few (at_end _ _ _ _ _ _ _ c.requires.looking c.if-x-eq0.true)
+    at_end _ _ _ _ _ _ _ c.if-x-eq0.true
 
 pub under-returns-else-x-eq0 : goal.under-returns-else-x-eq0
 under-returns-else-x-eq0 t c = c.scan.ensures

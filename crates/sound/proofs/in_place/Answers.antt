@@ -5,4 +5,4 @@ use Rattle.sound.proofs.in_place.Goals as goal
 
 pub returns : goal.returns
 unfolding in_place
-returns c = simp (sym c.long-key.ensures, sym c.fit.ensures)
+returns c = simp (sym c.from-key.ensures, sym c.fit.ensures)

@@ -9,8 +9,7 @@ pub returns-then-in_place : goal.returns-then-in_place
 returns-then-in_place c =
     slot-entered c.marked.ensures c.slot_at-s.ensures
     c.in_place.ensures c.if-marked.false c.if-in_place.true
-    c.mark.ensures c.wide-left.ensures c.wide-right.ensures
-    c.long-key.ensures
+    c.mark.ensures c.from-key.ensures
 
 pub returns-else-in_place : goal.returns-else-in_place
 returns-else-in_place c =

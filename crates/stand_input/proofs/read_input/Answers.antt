@@ -7,11 +7,12 @@ use Rattle.stand_input.proofs.read_input.Goals as goal
 pub loop-n-preserved : goal.loop-n-preserved
 loop-n-preserved g c =
     let n = c.loop-n.n in
-    let got = c.read_at-got in
+    let more = c.in-Ok.count in
+    let buf = c.read_at.new.buf in
     record {
-      within = omega arith;
+      within = omega (arith, c.in-Ok.ensures.count_in_bounds);
       room = omega arith;
       bytes =
-          rw (take-add n got.result.count got.new.buf, got.ensures.buf_unchanged)
-          (Consumes-trans _ _ _ _ _ c.loop-n.invariant.bytes got.ensures.bytes);
+          rw (take-add n more buf, c.in-Ok.ensures.buf_unchanged)
+          (Consumes-trans _ _ _ _ _ c.loop-n.invariant.bytes c.in-Ok.ensures.bytes);
     }

@@ -1,46 +1,27 @@
 -- `text_list::put_all` meets its contract. Assumes nothing.
-use mathlib.Core.Path.{refl, ◌∙◌}
 use native.Mathlib.Omega.{arith}
+use Rattle.gate.proofs.Tables.{table_whole}
 use Rattle.in_order.proofs.Slots.{listed-few, listed-slot}
 use Rattle.text_list.proofs.Records.{first-none, first_more, first-all}
 use Rattle.text_list.proofs.put_all.Goals as goal
 
-pub loop-i-init : goal.loop-i-init
-loop-i-init c = (omega arith, refl, first-none _ c.args.c _ _)
-
-pub offset_bounds-list-i : goal.offset_bounds-list-i
-offset_bounds-list-i c = omega (arith, c.requires.1.within, c.loop-i-test.true)
-
-pub bounds-list-i : goal.bounds-list-i
-bounds-list-i c =
-    omega (arith, c.requires.1.within, c.loop-i-test.true)
+pub loop-k-init : goal.loop-k-init
+loop-k-init c = first-none _ c.args.table.slots _ _
 
 pub slot_at-requires : goal.slot_at-requires
-slot_at-requires c =
-    let pre = c.requires in listed-slot pre.0 pre.1 c.loop-i.i c.loop-i-test.true
+slot_at-requires c = listed-slot (table_whole c.args.table) c.requires.0 c.loop-k.k-index c.loop-k-test.true
 
 pub put_record-p-requires : goal.put_record-p-requires
 put_record-p-requires c =
     let pre = c.requires in
-    let inv = c.loop-i.invariant in
-    let more = c.loop-i-test.true in omega (arith, pre.2, inv.1, inv.2.within, listed-few pre.0 pre.1, more)
+    omega (arith, pre.1, c.loop-k.invariant.within, listed-few (table_whole c.args.table) pre.0, c.loop-k-test.true)
 
-pub overflow_add-i : goal.overflow_add-i
-overflow_add-i c = omega arith
-
-pub loop-i-smaller : goal.loop-i-smaller
-loop-i-smaller c = omega arith
-
-pub loop-i-preserved : goal.loop-i-preserved
-loop-i-preserved c =
-    let s = c.slot_at.ensures in
-    let o = c.requires.1 in
-    let more = c.loop-i-test.true in
-    let inv = c.loop-i.invariant in (omega arith, c.put_record-p.auto.out ∙ inv.1, first_more o c.loop-i.i more inv.2 (rw s at c.put_record-p.ensures))
-
-pub shape_of-out : goal.shape_of-out
-shape_of-out c = c.loop-i.invariant.1
+pub loop-k-preserved : goal.loop-k-preserved
+loop-k-preserved c =
+    first_more c.requires.0 c.loop-k.k-index c.loop-k-test.true c.loop-k.invariant
+    (rw c.slot_at.ensures at c.put_record-p.ensures)
 
 pub returns : goal.returns
 returns c =
-    let pre = c.requires in first-all pre.1 pre.0 c.loop-i.i (omega (arith, c.loop-i-test.false, c.loop-i.invariant.0)) c.loop-i.invariant.2
+    let pre = c.requires in
+    first-all pre.0 (table_whole c.args.table) c.loop-k.k-index (omega (arith, c.loop-k-test.false)) c.loop-k.invariant

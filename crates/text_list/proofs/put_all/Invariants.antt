@@ -1,12 +1,6 @@
--- `text_list::put_all` meets its contract. Assumes nothing.
-use Prim.Native.Nat.{◌-◌, ◌≤◌}
-use mathlib.Core.Path.{◌≡◌}
-use lib.ListN.{length}
+-- `text_list::put_all` puts record after record. Assumes nothing.
 use Rattle.text_list.proofs.Records.{FirstPut}
 use Rattle.text_list.proofs.put_all.Given as goal
 
-abbrev pub invariant-loop-i : goal.invariant-loop-i
-invariant-loop-i l = (l.i ≤ l.n) × (length l.out ≡ length l.initial.out) × FirstPut l.t l.c l.initial.out l.at l.out l.p l.i
-
-abbrev pub decreases-loop-i : goal.decreases-loop-i
-decreases-loop-i l = l.n - l.i
+abbrev pub invariant-loop-k : goal.invariant-loop-k
+invariant-loop-k l = FirstPut l.table.words.now l.table.slots l.initial.out l.at l.out l.p l.k-index

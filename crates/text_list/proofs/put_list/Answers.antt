@@ -1,25 +1,22 @@
 -- `text_list::put_list` meets its contract. Assumes nothing.
-use mathlib.Core.Path.{sym}
 use native.Mathlib.Omega.{arith}
-use Rattle.spelling.proofs.Opened.{opened}
 use Rattle.text_list.specs.List.{list_text}
 use Rattle.text_list.proofs.Records.{wider}
 use Rattle.text_list.proofs.put_list.Goals as goal
 
 pub put_listed-requires : goal.put_listed-requires
 put_listed-requires c =
-    let w = opened _ _ _ c.enter_sound.ensures c.in-Open.is in
-    (w, omega (arith, c.requires, w.sized.room))
+    let room = rw (rw c.in-Ok.is at c.enter_sound.ensures).1 at c.in-Ok.table.room in omega (arith, c.requires, room)
 
-pub returns-in-Shut : goal.returns-in-Shut
+pub returns-in-Err : goal.returns-in-Err
 unfolding list_text
-returns-in-Shut c =
-    rw (sym c.enter_sound.ensures, c.in-Shut.is)
+returns-in-Err c =
+    rw (rw c.in-Err.is at c.enter_sound.ensures)
     (wider (rw c.refuse.ensures at c.put_answer.ensures) (omega arith))
 
-pub returns-in-Open : goal.returns-in-Open
+pub returns-in-Ok : goal.returns-in-Ok
 unfolding list_text
-returns-in-Open c =
-    let w = opened _ _ _ c.enter_sound.ensures c.in-Open.is in
-    rw (sym c.enter_sound.ensures, c.in-Open.is)
-    (wider c.put_listed.ensures (omega (arith, w.sized.room)))
+returns-in-Ok c =
+    let e = rw c.in-Ok.is at c.enter_sound.ensures in
+    let room = rw e.1 at c.in-Ok.table.room in
+    rw e.0 (wider (rw e.1 at c.put_listed.ensures) (omega (arith, room)))

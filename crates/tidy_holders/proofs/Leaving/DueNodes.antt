@@ -5,7 +5,7 @@ use mathlib.Core.Bool.{true, not, ◌&&◌}
 use mathlib.Core.List.{List}
 use native.Mathlib.Omega.{arith}
 use lib.Dec.{leb, eqb}
-use lib.ListN.{get_or}
+use lib.ListN.{length, get_or}
 use borrow.Author.Tests.{leb-true, eqb-false, not-true}
 use Rattle.scope.proofs.Bools.{and_l, and_r}
 use Rattle.scope.specs.Numbers.{other}
@@ -75,6 +75,17 @@ module _ {t : List ℕ} {c : ℕ} (wh : Whole t c) {v n : ℕ} (d : Due t c v n)
   pub whole_again : Whole (fired_at t c v n) c
   whole_again = rw fired-is (fired-whole wh r v d.first d.most d.due)
 
+  pub may-move : Moving nodes r.side
+  may-move = record {
+    holder = omega (arith, nodes-lie.holder, wh.sized.most);
+    v_most = omega (arith, d.most, wh.sized.most);
+    u_most = omega (arith, at-u.1, wh.sized.most);
+    w_most = omega (arith, at-w.1, wh.sized.most);
+    u_far = son-most nodes.u (other r.side) at-u.0 at-u.1;
+    w_near = son-most nodes.w r.side at-w.0 at-w.1;
+    w_far = son-most nodes.w (other r.side) at-w.0 at-w.1;
+  }
+
   module _ {h : List ℕ} (o : AllNoted t c h) where
     -- THE LINK THAT IS NOTED is the one that is looked up
     pub link-noted : link_numbered (get_or h v 0) ≡ link
@@ -83,10 +94,10 @@ module _ {t : List ℕ} {c : ℕ} (wh : Whole t c) {v n : ℕ} (d : Due t c v n)
         ap link_numbered p ∙ code-link link.holder link.side
 
     -- EVERY SLOT IS NOTED WHERE IT HANGS AGAIN
-    pub holds-again : AllNoted (fired_at t c v n) c (noted (action r.kind r.side nodes) h)
-    holds-again =
+    pub holds-again : length h ≡ 4096 → AllNoted (fired_at t c v n) c (noted (action r.kind r.side nodes) h)
+    holds-again room =
         let j : AreSlots (nodes_at t r link (word t (link_at link))) = rw linked.1 node-slots in
-        rw fired-is (rw linked.1 at (fired-holds wh link linked.0 o r j))
+        rw fired-is (rw linked.1 at (fired-holds wh link linked.0 room o r j))
 
     -- a slot that is not looked at again is away from the firing
     pub away : (x : ℕ) → 1 ≤ x → x ≤ c → Unnoted h nodes x → Elsewhere t nodes x
@@ -98,15 +109,3 @@ module _ {t : List ℕ} {c : ℕ} (wh : Whole t c) {v n : ℕ} (d : Due t c v n)
 
     pub above-two : Record t c (above_of h (above_of h v))
     above-two = above-record wh o (above_of h v) above-one
-
-    pub may-move : Moving h nodes r.side
-    may-move = record {
-      room = o.room;
-      holder = omega (arith, nodes-lie.holder, wh.sized.most);
-      v_most = omega (arith, d.most, wh.sized.most);
-      u_most = omega (arith, at-u.1, wh.sized.most);
-      w_most = omega (arith, at-w.1, wh.sized.most);
-      u_far = son-most nodes.u (other r.side) at-u.0 at-u.1;
-      w_near = son-most nodes.w r.side at-w.0 at-w.1;
-      w_far = son-most nodes.w (other r.side) at-w.0 at-w.1;
-    }

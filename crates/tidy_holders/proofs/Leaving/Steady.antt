@@ -16,8 +16,7 @@ use Rattle.scope.specs.declared.side.Side.{Side}
 use Rattle.scope.specs.declared.rule.Pair.{Pair}
 use Rattle.scope.specs.declared.rule.Kind.{Kind}
 use Rattle.scope.specs.declared.rule.Rule.{Rule}
-use Rattle.scope.specs.declared.rule.RuleIs.{RuleIs}
-use Rattle.scope.specs.declared.rule.RuleIs.TheVariants as rule-is
+use Rattle.std.specs.Prelude.{Option, Some, None}
 
 -- two tables agree at slot x: on it, on its sons, and on the registers of its grandsons
 pub record Agree (t t' : List ℕ) (x : ℕ) : Type 0 where
@@ -38,7 +37,7 @@ tested false k c state u w pv pu pw = there c state u w && guard k pv pu pw
 
 is-tested : (limited : Bool) (t : List ℕ) (c : ℕ) (r : Rule) (x : ℕ)
     → (let n = nodes_at t r root_link x in
-    by_rule limited t c x (rule-is.Known r)
+    by_rule limited t c x (Some r)
     ≡ tested limited r.kind c n.sv.state n.u n.w
     (seen r.side n.sv) (seen r.side n.su) (seen r.side n.sw))
 unfolding tested due_at holds_at guard_at highest_at
@@ -95,10 +94,10 @@ module _ {t t' : List ℕ} {x : ℕ} (a : Agree t t' x) (c : ℕ) (limited : Boo
             ])
       ])
 
-same-rule : {t t' : List ℕ} {x : ℕ} → Agree t t' x → (c : ℕ) (limited : Bool) (r : RuleIs)
+same-rule : {t t' : List ℕ} {x : ℕ} → Agree t t' x → (c : ℕ) (limited : Bool) (r : Option Rule)
     → by_rule limited t' c x r ≡ by_rule limited t c x r
-same-rule a c limited rule-is.Unknown = refl
-same-rule {t} {t'} {x} a c limited (rule-is.Known r) =
+same-rule a c limited None = refl
+same-rule {t} {t'} {x} a c limited (Some r) =
     is-tested limited t' c r x ∙ same_reads a c limited r.kind r.side ∙ sym (is-tested limited t c r x)
 
 -- THE TEST IS THE SAME where the tables agree

@@ -11,7 +11,7 @@ use Rattle.scope.specs.declared.side.Side.TheVariants.{Left, Right}
 use Rattle.spelling.specs.Whole.{Whole}
 use Rattle.spelling.proofs.Laws.{in_table, header-root}
 use Rattle.tidy_holders.specs.Codes.{link_for, link_number, held_at}
-use Rattle.tidy_holders.specs.Holds.{CodeIn, AllNoted, Entries, Sons, sons_noted}
+use Rattle.tidy_holders.specs.Holds.{CodeIn, AllNoted, Sons, sons_noted}
 use Rattle.tidy_holders.proofs.Noting.Links.{son-in, held-root, held-son, held-most, one_code}
 
 -- every link of a number below n is noted
@@ -53,56 +53,33 @@ module _ {t : List ℕ} {c : ℕ} (w : Whole t c) where
 pub root-most : {t : List ℕ} {c : ℕ} → Whole t c → word t root_word ≤ 4095
 root-most {t} {c} w = omega (arith, header-root c t w.sound.header, w.sized.most)
 
--- at slot k
-pub record Filling (t : List ℕ) (c : ℕ) (h : List ℕ) (k : ℕ) : Type 0 where
-  pub whole : Whole t c
-  pub first : 1 ≤ k
-  pub most : k ≤ c + 1
-  pub filled : Filled t c h (2 * k)
-
-module _ {t : List ℕ} {c : ℕ} where
-  pub filling-start : (h : List ℕ) {h' : List ℕ} {x : ℕ} → Whole t c → x ≡ word t root_word → length h ≡ 4096
-      → Entries (set h x (link_number (link_for 0 Left))) h' → Filling t c h' 1
+-- a sound table's slot k
+module _ {t : List ℕ} {c : ℕ} (w : Whole t c) where
+  pub filled-start : (h : List ℕ) {h' : List ℕ} {x : ℕ} → x ≡ word t root_word → length h ≡ 4096
+      → h' ≡ set h x (link_number (link_for 0 Left)) → Filled t c h' 2
   unfolding link_number
-  filling-start h w e len n = record {
-    whole = w;
-    first = omega arith;
-    most = omega arith;
-    filled = record {
-      room = n.room;
-      is = λ q i l o.
-          let z : q ≡ 0 = omega (arith, i.proper) in
-          rw (z, held-root t, n.is, e) (get_or-set_same h (word t root_word) 0 0 (omega (arith, root-most w, len)));
-    };
+  filled-start h {h'} {x} e room is = record {
+    room = rw is (length-set h x 0 ∙ room);
+    is = λ q i l o.
+        let z : q ≡ 0 = omega (arith, i.proper) in
+        rw (z, held-root t, is, e) (get_or-set_same h (word t root_word) 0 0 (omega (arith, root-most w, room)));
   }
 
-  module _ {h : List ℕ} {k : ℕ} (f : Filling t c h k) where
-    son-most : (h : k ≤ c) → ((slot_at t k).left ≤ c) × ((slot_at t k).right ≤ c)
-    son-most h =
-        let w = f.whole in (
-          rw (← held-son t k Left f.first) (held-most w _ (son-in k Left f.first h)),
-          rw (← held-son t k Right f.first) (held-most w _ (son-in k Right f.first h)),
-        )
-
-    pub filling-sons : k ≤ c → Sons t h k
-    filling-sons i =
-        let s = son-most i in
+  module _ {k : ℕ} (first : 1 ≤ k) (most : k ≤ c) where
+    pub sons-in : Sons t k
+    sons-in =
+        let l = rw (held-son t k Left first) at (held-most w _ (son-in k Left first most)) in
+        let r = rw (held-son t k Right first) at (held-most w _ (son-in k Right first most)) in
         record {
-          room = f.filled.room;
-          table = in_table k f.whole.sized f.first i;
-          most = omega (arith, f.whole.sized.most);
-          left = omega (arith, f.whole.sized.most);
-          right = omega (arith, f.whole.sized.most);
+          table = in_table k w.sized first most;
+          most = omega (arith, w.sized.most);
+          left = omega (arith, w.sized.most);
+          right = omega (arith, w.sized.most);
         }
 
-    pub filling-on : k ≤ c → {h' : List ℕ} → Entries (sons_noted t k h) h' → Filling t c h' (k + 1)
-    filling-on i n = record {
-      whole = f.whole;
-      first = omega arith;
-      most = omega arith;
-      filled = rw n.is
-          (pair f.whole k f.first i f.filled (length-set h _ _ ∙ f.filled.room) (rw (← n.is) n.room));
-    }
+    pub filled-on : {h h' : List ℕ} → Filled t c h (2 * k) → h' ≡ sons_noted t k h → Filled t c h' (2 * (k + 1))
+    unfolding sons_noted
+    filled-on {h} f is = rw is (pair w k first most f (length-set h _ _ ∙ f.room) (simp length-set f.room))
 
-    pub filling-end : c < k → AllNoted t c h
-    filling-end l = record { room = f.filled.room; is = λ q i o. f.filled.is q i (omega (arith, i.most)) o }
+pub filled-end : {t : List ℕ} {c : ℕ} {h : List ℕ} {k : ℕ} → Filled t c h (2 * k) → c < k → AllNoted t c h
+filled-end f l = record { is = λ q i o. f.is q i (omega (arith, i.most)) o }

@@ -4,6 +4,7 @@ use mathlib.Core.Path.{◌≡◌, refl}
 use mathlib.Core.Bool.{true}
 use mathlib.Core.Option.{Option, none, some}
 use mathlib.Core.List.{List, []}
+use lib.ListN.{length}
 use Rattle.scope.specs.Table.{word, link_at, written}
 use Rattle.scope.specs.Tree.{Tree}
 use Rattle.scope.specs.Rules.{action_at}
@@ -14,7 +15,6 @@ use Rattle.scope.specs.declared.rule.Kind.{Kind}
 use Rattle.scope.specs.declared.rule.Kind.TheVariants.{Propagate, Lean, Even, Double}
 use Rattle.scope.specs.declared.rule.Rule.{Rule}
 use Rattle.scope.specs.declared.outcome.Nodes.{Nodes}
-use Rattle.scope.specs.declared.outcome.Firing.TheVariants.{Fire}
 use Rattle.spelling.specs.Whole.{Whole}
 use Rattle.tree.specs.Rewrite.{rule_on, accept_at}
 use Rattle.scope.specs.Edits.{writes}
@@ -32,8 +32,10 @@ use Rattle.tidy_holders.proofs.Noting.Acts.{AreSlots, action-edits}
 use Rattle.tidy_holders.proofs.Noting.Swaps.{after_moves, told}
 use Rattle.tidy_holders.proofs.Noting.Places.{held_part, held_by, note_part, note_by}
 use Rattle.tidy_holders.proofs.Noting.Turned.{by-moves, v-within, turned-holds, twice_holds}
+use Rattle.std.specs.Prelude.{Ok}
 
-module _ {t : List ℕ} {c : ℕ} (wh : Whole t c) (l : Link) (i : LinkIn c l) {h : List ℕ} (o : AllNoted t c h) where
+module _ {t : List ℕ} {c : ℕ} (wh : Whole t c) (l : Link) (i : LinkIn c l) {h : List ℕ} (room : length h ≡ 4096)
+    (o : AllNoted t c h) where
   abbrev at : Rule → Nodes
   at r = nodes_at t r l (word t (link_at l))
 
@@ -41,11 +43,11 @@ module _ {t : List ℕ} {c : ℕ} (wh : Whole t c) (l : Link) (i : LinkIn c l) {
       → AllNoted (written t (writes (action k s (at (rule_on k s))))) c (noted (action k s (at (rule_on k s))) h)
   unfolding held_by held_part note_by note_part after_moves told
   edited-holds Propagate s j =
-      by-moves wh.sized o (propagated s (at (rule_on Propagate s))) []
+      by-moves wh.sized room o (propagated s (at (rule_on Propagate s))) []
       ((j.v, v-within wh l i s j.v j.u), tt) (tt, tt) tt (λ q n. tt) (λ q. refl) (λ k. refl)
-  edited-holds Lean s j = turned-holds wh l i s j.v j.u o (at (rule_on Lean s)).w (at (rule_on Lean s)).sw
-  edited-holds Even s j = turned-holds wh l i s j.v j.u o (at (rule_on Even s)).w (at (rule_on Even s)).sw
-  edited-holds Double s j = twice_holds wh l i s j.v j.u o j.w
+  edited-holds Lean s j = turned-holds wh l i s j.v j.u room o (at (rule_on Lean s)).w (at (rule_on Lean s)).sw
+  edited-holds Even s j = turned-holds wh l i s j.v j.u room o (at (rule_on Even s)).w (at (rule_on Even s)).sw
+  edited-holds Double s j = twice_holds wh l i s j.v j.u room o j.w
 
   pub fired-holds : (r : Rule) → AreSlots (at r)
       → AllNoted (written t (action_at r (at r))) c (noted (action r.kind r.side (at r)) h)
@@ -53,7 +55,7 @@ module _ {t : List ℕ} {c : ℕ} (wh : Whole t c) (l : Link) (i : LinkIn c l) {
 
 -- what comes out on the tree too leaves the table sound
 whole-after : (t : List ℕ) (c : ℕ) (T : Tree) (r : Rule) (n : Nodes) (g a : Option Tree)
-    → Alike t (λ T' t'. Fired t t' c T T') g a (Fire r n) → Whole (written t (action_at r n)) c
+    → Alike t (λ T' t'. Fired t t' c T T') g a (Ok (r, n)) → Whole (written t (action_at r n)) c
 whole-after t c T r n g none a = absurd a
 whole-after t c T r n g (some T') a = a.whole
 

@@ -3,7 +3,7 @@ use Prim.Native.Nat.{ℕ, ◌≤◌}
 use mathlib.Core.Path.{◌≡◌, refl, sym, ◌∙◌, ap}
 use mathlib.Core.List.{List, [], ◌∷◌}
 use native.Mathlib.Omega.{arith}
-use lib.ListN.{get_or}
+use lib.ListN.{length, get_or}
 use Rattle.scope.specs.Numbers.{other}
 use Rattle.scope.specs.Table.{word, slot_at, son, link_at, written}
 use Rattle.scope.specs.declared.side.Side.{Side}
@@ -25,18 +25,17 @@ use Rattle.tidy_holders.proofs.Noting.Places.{note_part, note_by, EachNoted, not
 use Rattle.tidy_holders.proofs.Noting.Apart.{Two, Three, two-apart, three-apart}
 
 -- edits that come to such moves
-pub by-moves : {t : List ℕ} {c : ℕ} {h : List ℕ} → Sized t c → AllNoted t c h → (es : List Edit) (ms : List Move)
+pub by-moves : {t : List ℕ} {c : ℕ} {h : List ℕ} → Sized t c → length h ≡ 4096 → AllNoted t c h → (es : List Edit) (ms : List Move)
     → AllProper c es → EachNoted es → Once c ms → ((q : ℕ) → NotAt q ms → NotFrom q ms)
     → ((q : ℕ) → held_by es q (held_at t q) ≡ after_moves c (held_at t) (λ k. get_or h k 0) ms q)
     → ((k : ℕ) → note_by es k (get_or h k 0) ≡ told c (held_at t) (λ k. get_or h k 0) ms k)
     → AllNoted (written t (writes es)) c (noted es h)
-by-moves {t} {c} {h} z o es ms p n once out held note = record {
-  room = (note-edits h o.room 0 es n).0;
+by-moves {t} {c} {h} z room o es ms p n once out held note = record {
   is = λ q i l.
       let e = held-edits z q i es p ∙ held q in
       let x = after_moves c (held_at t) (λ k. get_or h k 0) ms q in
       ap (λ (k : ℕ). get_or (noted es h) k 0) e
-      ∙ (note-edits h o.room x es n).1 ∙ note x
+      ∙ (note-edits h room x es n).1 ∙ note x
       ∙ told-after c (held_at t) (λ k. get_or h k 0) o.is ms once q i (out q) (rw (← e) l);
 }
 
@@ -117,12 +116,12 @@ module _ {t : List ℕ} {c : ℕ} (wh : Whole t c) (l : Link) (i : LinkIn c l) (
     abbrev pub pair_at : ℕ → Slot → Nodes
     pair_at w sw = record { link = l; v = v; u = u; w = w; sv = slot_at t v; su = slot_at t u; sw = sw }
 
-    module _ {h : List ℕ} (o : AllNoted t c h) where
+    module _ {h : List ℕ} (room : length h ≡ 4096) (o : AllNoted t c h) where
       pub turned-holds : (w : ℕ) (sw : Slot)
           → AllNoted (written t (writes (rotated s (pair_at w sw)))) c (noted (rotated s (pair_at w sw)) h)
       unfolding held_by held_part note_by note_part after_moves told
       turned-holds w sw =
-          by-moves wh.sized o (rotated s (pair_at w sw)) (takes b a ∷ takes a g ∷ takes g b ∷ [])
+          by-moves wh.sized room o (rotated s (pair_at w sw)) (takes b a ∷ takes a g ∷ takes g b ∷ [])
           (i, (in-u, (in-v, (at-v, (at-u, tt)))))
           (small u_most, (small v-within, (rw (← held-son t u (other s) ui) (most a a_in), (tt, (tt, tt)))))
           (a_in, ((λ e. g-a (sym e)), (a-b, tt)), (code_in l i, (g-b, tt), (b-in, tt, tt)))
@@ -197,7 +196,7 @@ module _ {t : List ℕ} {c : ℕ} (wh : Whole t c) (l : Link) (i : LinkIn c l) (
             (noted (rotated_twice s (pair_at m (slot_at t m))) h)
         unfolding held_by held_part note_by note_part after_moves told
         twice_holds =
-            by-moves wh.sized o (rotated_twice s (pair_at m (slot_at t m))) moves proper
+            by-moves wh.sized room o (rotated_twice s (pair_at m (slot_at t m))) moves proper
             noted-all once
             (λ q n. (n.1.1.0, (n.1.1.1.0, (n.1.1.1.1.0, (n.0, (n.1.0, tt))))))
             (λ q. rw (wf-son, wn-son, held_link t l, held-son t v s vi, held-son t u (other s) ui) refl)

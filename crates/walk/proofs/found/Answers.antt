@@ -7,7 +7,7 @@ use Rattle.walk.proofs.found.Goals as goal
 pub slot_at-s-requires : goal.slot_at-s-requires
 slot_at-s-requires c =
     let i = rw c.in-Hit.is at c.requires.1 in
-    record { first = omega arith; whole = omega arith }
+    record { first = omega arith; whole = omega (arith, c.requires.0.room) }
 
 pub returns-in-Damage : goal.returns-in-Damage
 unfolding found_in
@@ -24,9 +24,8 @@ returns-in-Hit c =
       c.in-Hit.is,
       sym c.slot_at-s.ensures,
       sym c.change.ensures,
-      sym c.long.ensures,
-      sym c.long-in-Hit.ensures,
-      sym c.size.ensures,
-      sym c.long-in-Hit-2.ensures,
+      sym c.from.ensures,
+      sym c.from-in-Hit.ensures,
+      sym c.from-in-Hit-2.ensures,
       sym c.accept.ensures,
     )

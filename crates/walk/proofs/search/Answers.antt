@@ -3,25 +3,26 @@ use mathlib.Core.Path.{ap}
 use mathlib.Core.Bool.{not}
 use native.Mathlib.Omega.{arith}
 use Rattle.spelling.proofs.Laws.{in_table}
+use Rattle.gate.proofs.Tables.{table_ready}
 use Rattle.walk.proofs.Visits.{begins, ends-empty, ends-broken, ends-here, one_more, passes_on}
 use Rattle.walk.proofs.search.Goals as goal
 
 -- and each way on or out is one law of it. Assumes nothing.
 
 pub loop-at-init : goal.loop-at-init
-loop-at-init c = rw c.root-at.ensures (begins c.requires)
+loop-at-init c = rw c.root-at.ensures (begins (table_ready c.args.table))
 
 pub slot_at-s-requires : goal.slot_at-s-requires
 slot_at-s-requires c =
-    let r = c.requires in in_table _ r.sized (omega (arith, c.if-at-eq0.false)) c.loop-at.invariant.at_le
+    let r = table_ready c.args.table in in_table _ r.sized (omega (arith, c.if-at-eq0.false)) c.loop-at.invariant.at_le
 
 pub overflow_add-seen : goal.overflow_add-seen
 overflow_add-seen c =
-    omega (arith, c.loop-at.invariant.seen_le, c.requires.sized.most)
+    omega (arith, c.loop-at.invariant.seen_le, (table_ready c.args.table).sized.most)
 
 pub visit_ok-requires : goal.visit_ok-requires
 visit_ok-requires c =
-    (c.requires.sized.most, omega (arith, c.loop-at.invariant.seen_le))
+    ((table_ready c.args.table).sized.most, omega (arith, c.loop-at.invariant.seen_le))
 
 pub loop-at-smaller : goal.loop-at-smaller
 loop-at-smaller c =

@@ -4,7 +4,7 @@ use Rattle.walk.proofs.Visits.{Heading}
 use Rattle.walk.proofs.search.Given as goal
 
 abbrev pub invariant-loop-at : goal.invariant-loop-at
-invariant-loop-at l = Heading l.t l.c l.key l.at l.link l.passed l.seen
+invariant-loop-at l = Heading l.table.words.now l.table.slots l.key l.at l.link l.passed l.seen
 
 abbrev pub decreases-loop-at : goal.decreases-loop-at
-decreases-loop-at l = l.c - l.seen
+decreases-loop-at l = l.table.slots - l.seen

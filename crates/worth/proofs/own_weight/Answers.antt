@@ -5,16 +5,8 @@ use Rattle.worth.proofs.own_weight.Goals as goal
 
 pub returns : goal.returns
 returns c =
-    let e = own_eq c.args.s c.args.out c.args.above c.long.ensures
-    c.long-2.ensures
-    c.localh.ensures
-    c.carry-w.ensures.0 c.gap-p.ensures c.balance.ensures in
-    let light = c.requires in (
-      e,
-      omega (
-        arith,
-        e,
-        own-most c.args.s.lefth c.args.s.righth c.args.out c.args.above
-            light.left light.right light.outside light.over_it,
-      ),
-    )
+    let s = c.args.s in
+    let light = c.requires in
+    let e = own_eq s c.args.out c.args.above c.over.ensures c.carry-w.ensures.0 (omega (arith, c.from-p.ensures, c.abs_diff.ensures)) c.balance.ensures in
+    let most = own-most s.lefth s.righth c.args.out c.args.above light.left light.right light.outside light.over_it in
+    (e, omega (arith, e, most))

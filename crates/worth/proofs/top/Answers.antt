@@ -14,5 +14,5 @@ returns-then-x-eq0 c = (says-leaf _ _ top_of c.if-x-eq0.true, omega arith)
 
 pub returns-else-x-eq0 : goal.returns-else-x-eq0
 returns-else-x-eq0 c =
-    top-here (forked c.requires.1 c.if-x-eq0.false refl)
-    (c.localh.ensures ∙ ap (λ (s : Slot). over s.lefth s.righth) c.slot_at.ensures)
+    top-here (forked c.requires.1 (omega (arith, c.if-x-eq0.false)) refl)
+    (c.over.ensures ∙ ap (λ (s : Slot). over s.lefth s.righth) c.slot_at-s.ensures)

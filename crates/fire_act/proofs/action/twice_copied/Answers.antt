@@ -5,4 +5,4 @@ use Rattle.fire_act.proofs.action.twice_copied.Goals as goal
 pub returns : goal.returns
 returns c =
     let a = c.args in copied-written a.t.now a.c a.n a.near c.other.ensures c.seen-w.ensures
-    c.copy_register.ensures c.copy_register-2.ensures
+    c.put_height.ensures c.put_height-2.ensures

@@ -4,5 +4,5 @@ use Rattle.fire_act.proofs.action.twice_sons.Goals as goal
 
 pub returns : goal.returns
 returns c =
-    let a = c.args in sons-written a.t.now a.c a.n a.near c.other-far.ensures c.son_word.ensures
-    c.son_word-2.ensures c.put_branch.ensures c.put_branch-2.ensures
+    let a = c.args in sons-written a.t.now a.c a.n a.near c.other-far.ensures c.son.ensures
+    c.son-2.ensures c.put_son.ensures c.put_son-2.ensures

@@ -6,10 +6,10 @@ use Rattle.fire_act.proofs.put.put_height.Goals as goal
 
 pub put_register-requires : goal.put_register-requires
 put_register-requires c =
-    let p = c.requires.0 in (p.first, omega arith, register-lt _ _ _ c.args.side p.sized p.first p.most)
+    let p = c.requires in (p.first, omega arith, register-lt _ _ _ c.args.side p.sized p.first p.most)
 
 pub returns : goal.returns
 returns c =
     let a = c.args in
-    let p = c.requires.0 in rw (register-at a.k a.side p.first)
+    let p = c.requires in rw (register-at a.k a.side p.first)
     (kept_set a.t.now a.c _ a.height p.sized c.put_register.ensures)

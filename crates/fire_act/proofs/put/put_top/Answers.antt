@@ -6,7 +6,7 @@ use Rattle.spelling.proofs.Laws.{link-lt}
 use Rattle.fire_act.proofs.put.put_top.Goals as goal
 
 pub put_link-requires : goal.put_link-requires
-put_link-requires c = let p = c.requires in (omega arith, link-lt _ _ _ p.0 p.1, omega arith)
+put_link-requires c = let p = c.requires in (omega arith, link-lt _ _ _ p.0 p.1)
 
 pub returns : goal.returns
 unfolding link_at

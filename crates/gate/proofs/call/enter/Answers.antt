@@ -1,43 +1,16 @@
--- `gate::call::enter` meets its contract. Assumes nothing.
-use mathlib.Core.Path.{◌∙◌, sym}
-use native.Mathlib.Omega.{arith}
-use Rattle.spelling.proofs.Laws.{slots-room}
-use Rattle.scope.specs.Answers.{gate}
+-- `gate::enter` meets its contract: what the tests tell is what a table holds. Assumes nothing.
+use mathlib.Core.Path.{sym, ◌∙◌}
+use Rattle.spelling.proofs.Laws.{slots_sized, header-root, header-count}
 use Rattle.gate.proofs.call.enter.Goals as goal
 
-pub header_ok-requires : goal.header_ok-requires
-header_ok-requires c =
-    let s = slots-room c.args.t.now _ (sym c.capacity.ensures ∙ c.in-Within.is) in
-    omega arith
-
-pub returns-in-Outside : goal.returns-in-Outside
-unfolding gate
-returns-in-Outside c = simp (sym c.capacity.ensures, c.in-Outside.is)
-
-pub returns-then-header_ok : goal.returns-then-header_ok
-unfolding gate
-returns-then-header_ok c =
-    simp (
-      sym c.capacity.ensures,
-      c.in-Within.is,
-      c.if-in_range.true,
-      sym
-          c.header_ok.ensures,
-      c.if-header_ok.true,
-    )
-
-pub returns-else-header_ok : goal.returns-else-header_ok
-unfolding gate
-returns-else-header_ok c =
-    simp (
-      sym c.capacity.ensures,
-      c.in-Within.is,
-      c.if-in_range.true,
-      sym
-          c.header_ok.ensures,
-      c.if-header_ok.false,
-    )
-
-pub returns-else-in_range : goal.returns-else-in_range
-unfolding gate
-returns-else-in_range c = simp (sym c.capacity.ensures, c.in-Within.is, c.if-in_range.false)
+pub invariant_of-result : goal.invariant_of-result
+invariant_of-result c =
+    let s = slots_sized c.args.t.now _ _ (sym c.capacity.ensures ∙ c.in_ok-slots.was) in
+    let h = sym c.header_ok.ensures ∙ c.if-header_ok.true in
+    record {
+      room = s.room;
+      some = s.some;
+      most = s.most;
+      root = header-root _ _ h;
+      count = header-count _ _ h;
+    }

@@ -4,5 +4,5 @@ use Rattle.gate.proofs.tests.header_ok.Goals as goal
 
 pub returns : goal.returns
 returns c =
-    rw (c.zero.ensures, c.records_word.ensures, c.root_word.ensures, c.spare-extra.ensures)
+    rw (c.zero.ensures, c.records.ensures, c.root.ensures, c.spare-extra.ensures)
     (header-together c.args.c _ c.requires.1)

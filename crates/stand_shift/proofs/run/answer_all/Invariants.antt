@@ -1,8 +1,7 @@
 -- `stand_shift::run::answer_all` hands on the whole run piece by piece, and ends. Assumes nothing.
 use Prim.Native.Nat.{◌*◌, ◌-◌, ◌≤◌}
-use mathlib.Core.Path.{◌≡◌}
-use mathlib.Core.Bool.{false}
 use lib.ListN.{length, take}
+use Rattle.std.specs.Prelude.{OnOk}
 use Rattle.std.specs.Io.KnownBytes.{Appends}
 use Rattle.stand_shift.specs.Run.{run_text}
 use Rattle.stand_shift.proofs.Telling.{ToldSoFar}
@@ -12,8 +11,7 @@ abbrev pub invariant-loop-from : goal.invariant-loop-from
 invariant-loop-from g l = record {
   told : ToldSoFar l.input l.t l.from l.sent;
   bounded : l.sent ≤ 16384 * l.from;
-  written : l.failed ≡ false
-      → Appends (g.W.Write.contents l.initial.writer) (g.W.Write.contents l.writer) (take l.sent (run_text l.input));
+  written : OnOk l.done (Appends (g.W.Write.contents l.initial.writer) (g.W.Write.contents l.writer) (take l.sent (run_text l.input)));
 }
 
 abbrev pub decreases-loop-from : goal.decreases-loop-from

@@ -1,44 +1,39 @@
--- `text_fields::number::digits_at` meets its contract. The invariant is `Reading`: what is left from i on makes of v what all the digits are worth.
-use mathlib.Core.Path.{refl}
-use native.Mathlib.Omega.{arith}
-use lib.Dec.{lit≤}
-use Rattle.text_fields.proofs.Digits.{reading-next, reading-over, reading-end, reading-low, reading-high}
+-- `text_fields::number::digits_at` meets its contract: each way out is a law of `Reading`.
+use Rattle.std.proofs.Common.{arith, sym, ◌∙◌}
+use Rattle.text_fields.proofs.Digits.{reading-next, reading-over, reading-done, digits-end, digits-over}
 use Rattle.text_fields.proofs.number.digits_at.Goals as goal
 
--- Assumes nothing.
+pub returns-in_err-checked_mul : goal.returns-in_err-checked_mul
+returns-in_err-checked_mul c =
+    let digit = sym c.is_ascii_digit.ensures.value ∙ c.if-not-is_ascii_digit.false in
+    rw c.from_residual.ensures
+    (reading-over _ _ c.rest-c-items.ensures c.loop-c.invariant.reading (omega arith) digit (omega (arith, c.in_err-checked_mul.ensures)))
 
-pub loop-i-init : goal.loop-i-init
-loop-i-init c = record { small = lit≤ tt; value = refl; place = refl }
+pub returns-in_err-value : goal.returns-in_err-value
+returns-in_err-value c =
+    let digit = sym c.is_ascii_digit.ensures.value ∙ c.if-not-is_ascii_digit.false in
+    rw c.from_residual-in_err-value.ensures
+    (reading-over _ _ c.rest-c-items.ensures c.loop-c.invariant.reading (omega arith) digit
+    (omega (arith, c.in_err-value.ensures, c.in_ok-checked_mul.ensures, c.from.ensures)))
 
-pub bounds-s-i : goal.bounds-s-i
-bounds-s-i c = omega arith
+pub loop-c-preserved : goal.loop-c-preserved
+loop-c-preserved c =
+    let digit = sym c.is_ascii_digit.ensures.value ∙ c.if-not-is_ascii_digit.false in
+    record {
+      reading =
+          reading-next c.in_ok-value.value c.loop-c.invariant.reading (omega arith) digit
+          (omega (arith, c.in_ok-value.ensures, c.in_ok-checked_mul.ensures, c.from.ensures))
+          (omega (arith, c.in_ok-value.ensures));
+      place = omega arith;
+    }
 
-pub overflow_mul-v : goal.overflow_mul-v
-overflow_mul-v c = omega arith
+pub returns-after-loop-c : goal.returns-after-loop-c
+returns-after-loop-c c =
+    let i = c.loop-c.invariant in
+    reading-done _ _ _ c.rest-c-items.ensures i.reading (digits-end _ _ c.loop-c-test.false) i.place
 
-pub overflow_cast-v : goal.overflow_cast-v
-overflow_cast-v c = omega arith
-
-pub overflow_add-v : goal.overflow_add-v
-overflow_add-v c = omega arith
-
-pub returns-then-v-gt4294967295 : goal.returns-then-v-gt4294967295
-returns-then-v-gt4294967295 c = reading-over c.loop-i.invariant (omega arith) (omega arith) (omega arith) c.if-v-gt4294967295.true
-
-pub overflow_add-i : goal.overflow_add-i
-overflow_add-i c = omega arith
-
-pub loop-i-smaller : goal.loop-i-smaller
-loop-i-smaller c = omega arith
-
-pub loop-i-preserved : goal.loop-i-preserved
-loop-i-preserved c = reading-next c.loop-i.invariant (omega arith) (omega arith) (omega arith) c.if-v-gt4294967295.false
-
-pub returns-after-loop-i : goal.returns-after-loop-i
-returns-after-loop-i c = reading-end c.loop-i.invariant c.loop-i-test.false
-
-pub returns-then-c-lt48 : goal.returns-then-c-lt48
-returns-then-c-lt48 c = reading-low c.loop-i.invariant (omega arith) c.if-c-lt48.true
-
-pub returns-then-c-gt57 : goal.returns-then-c-gt57
-returns-then-c-gt57 c = reading-high c.loop-i.invariant (omega arith) c.if-c-gt57.true
+pub returns-then-not-is_ascii_digit : goal.returns-then-not-is_ascii_digit
+returns-then-not-is_ascii_digit c =
+    let i = c.loop-c.invariant in
+    let digit = sym c.is_ascii_digit.ensures.value ∙ c.if-not-is_ascii_digit.true in
+    reading-done _ _ _ c.rest-c-items.ensures i.reading (digits-over _ c.loop-c.c-index (omega arith) digit) i.place

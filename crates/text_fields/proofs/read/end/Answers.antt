@@ -1,16 +1,17 @@
 -- `text_fields::read::end` meets its contract. Assumes nothing.
-use borrow.Author.Tests.{eq-eqb, ne_eqb}
-use Rattle.text_fields.specs.Read.{word_then, number_then, end_then}
+use Rattle.std.proofs.Common.{◌≡◌, Bool, true, false, cond, Some, None, refl, rules, ◌∙◌}
+use Rattle.std.specs.Bool.{then_some}
+use Rattle.text_fields.specs.Read.{end_then}
 use Rattle.text_fields.proofs.read.end.Goals as goal
 
-pub returns-then-next-s : goal.returns-then-next-s
-unfolding end_then number_then word_then
-returns-then-next-s c = simp (c.in-Numbers.is, eq-eqb _ _ c.if-next-s.true)
+then-some : {A : Type 0} (b : Bool) (x : A) → then_some b x ≡ cond b (Some x) None
+then-some true x = refl
+then-some false x = refl
 
-pub returns-else-next-s : goal.returns-else-next-s
-unfolding end_then number_then word_then
-returns-else-next-s c = simp (c.in-Numbers.is, ne_eqb _ _ c.if-next-s.false)
+pub returns-in_err-read : goal.returns-in_err-read
+unfolding end_then
+returns-in_err-read c = search rules
 
-pub returns-in-Other : goal.returns-in-Other
-unfolding end_then number_then word_then
-returns-in-Other c = simp c.in-Other.is
+pub returns : goal.returns
+unfolding end_then
+returns c = rw c.in_ok-read.was (c.then_some.ensures ∙ then-some _ _)

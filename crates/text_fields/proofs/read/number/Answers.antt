@@ -1,17 +1,17 @@
 -- `text_fields::read::number` meets its contract. Assumes nothing.
-use mathlib.Core.Path.{sym}
-use Rattle.text_fields.specs.Read.{word_then, number_then, end_then}
+use Rattle.std.proofs.Common.{rules, sym}
+use Rattle.text_fields.specs.Read.{number_then}
 use Rattle.text_fields.proofs.read.number.Goals as goal
 
-pub returns-in_default : goal.returns-in_default
-unfolding end_then number_then word_then
-returns-in_default c = simp c.in_default.is
+pub returns-in_err-b : goal.returns-in_err-b
+unfolding number_then
+returns-in_err-b c = search rules
 
-pub returns-in-Number : goal.returns-in-Number
-unfolding end_then number_then word_then
-returns-in-Number c =
-    simp (c.in-Numbers.is, sym c.number_at.ensures, c.in-Number.is)
+pub returns-in_err-value : goal.returns-in_err-value
+unfolding number_then
+returns-in_err-value c =
+    rw (c.from_residual-in_err-value.ensures, c.in_ok-b.was, sym c.number_at.ensures, c.in_err-value.was)
 
-pub returns-in-NoNumber : goal.returns-in-NoNumber
-unfolding end_then number_then word_then
-returns-in-NoNumber c = simp (c.in-Numbers.is, sym c.number_at.ensures, c.in-NoNumber.is)
+pub returns : goal.returns
+unfolding number_then
+returns c = rw (c.in_ok-b.was, sym c.number_at.ensures, c.in_ok-value.was)

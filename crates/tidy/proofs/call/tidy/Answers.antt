@@ -1,23 +1,26 @@
 -- `tidy::call::tidy` meets its contract. Assumes nothing.
-use mathlib.Core.Path.{sym, ◌∙◌, ap}
+use mathlib.Core.Path.{sym, ◌∙◌, ap, subst}
+use mathlib.Core.List.{List}
+use Prim.Native.Nat.{ℕ}
+use Rattle.spelling.specs.Whole.{Whole}
 use Rattle.scope.specs.Answers.{Done}
-use Rattle.spelling.proofs.Opened.{opened}
+use Rattle.gate.proofs.Tables.{table_whole}
 use Rattle.tidy.proofs.Outcome.{tidy-shut, tidy-open}
 use Rattle.tidy.proofs.call.tidy.Goals as goal
 
 pub tidied-requires : goal.tidied-requires
 tidied-requires c =
-    opened c.args.t.now _ _ c.enter_sound.ensures c.in-Open.is
+    let e = (rw c.in-Ok.is at c.enter_sound.ensures).1 in
+    subst (λ (u : List ℕ). Whole u c.in-Ok.table.slots) e (table_whole c.in-Ok.table)
 
-pub returns-in-Shut : goal.returns-in-Shut
-returns-in-Shut c =
+pub returns-in-Err : goal.returns-in-Err
+returns-in-Err c =
     let a = c.args in
     let e = sym
-    (tidy-shut a.t.now a.budget (sym c.enter_sound.ensures ∙ c.in-Shut.is)) in
+    (tidy-shut a.t.now a.budget (rw c.in-Err.is at c.enter_sound.ensures)) in
     (c.refuse.ensures ∙ ap (λ (d : Done). d.answer) e, ap (λ (d : Done). d.words) e)
 
-pub returns-in-Open : goal.returns-in-Open
-returns-in-Open c =
+pub returns-in-Ok : goal.returns-in-Ok
+returns-in-Ok c =
     let a = c.args in
-    let e = sym c.enter_sound.ensures ∙ c.in-Open.is in
-    tidy-open a.t.now a.budget e c.tidied.ensures
+    tidy-open a.t.now a.budget (rw c.in-Ok.is at c.enter_sound.ensures).0 c.tidied.ensures

@@ -1,10 +1,6 @@
 -- `tidy::review::review_all` meets its contract. Assumes nothing.
-use Prim.Native.Nat.{◌+◌, ◌-◌, ◌≤◌}
 use Rattle.tidy.specs.Reviewed.{AllReviewed}
 use Rattle.tidy.proofs.review.review_all.Given as goal
 
 abbrev pub invariant-loop-k : goal.invariant-loop-k
-invariant-loop-k l = AllReviewed l.t l.c l.m l.k × (1 ≤ l.k)
-
-abbrev pub decreases-loop-k : goal.decreases-loop-k
-decreases-loop-k l = l.c + 1 - l.k
+invariant-loop-k l = AllReviewed l.t l.c l.m l.k

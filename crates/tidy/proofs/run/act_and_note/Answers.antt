@@ -1,4 +1,5 @@
 -- `tidy::run::act_and_note` meets its contract. Assumes nothing.
+use mathlib.Core.Logic.{inl, inr}
 use Rattle.scope.specs.declared.rule.Kind.TheVariants.{Propagate, Lean, Even, Double}
 use Rattle.fire_act.proofs.Acting.{nodes-asked}
 use Rattle.tidy.proofs.Firing.{acted-alone, acted-noted}
@@ -10,11 +11,11 @@ propagate-requires c =
 
 pub rotate-requires : goal.rotate-requires
 rotate-requires c =
-    let p = c.requires in nodes-asked p.sized p.within Lean c.in-Lean.is
-
-pub rotate-requires-in-Even : goal.rotate-requires-in-Even
-rotate-requires-in-Even c =
-    let p = c.requires in nodes-asked p.sized p.within Even c.in-Even.is
+    let p = c.requires in
+    elim c.in-Lean.is [
+      | inl e ↦ nodes-asked p.sized p.within Lean e
+      | inr e ↦ nodes-asked p.sized p.within Even e
+    ]
 
 pub rotate_twice-requires : goal.rotate_twice-requires
 rotate_twice-requires c =
@@ -26,11 +27,11 @@ returns-in-Propagate c =
 
 pub returns-in-Lean : goal.returns-in-Lean
 returns-in-Lean c =
-    let p = c.requires in acted-noted p Lean c.in-Lean.is c.rotate.ensures c.turned.ensures
-
-pub returns-in-Even : goal.returns-in-Even
-returns-in-Even c =
-    let p = c.requires in acted-noted p Even c.in-Even.is c.rotate-in-Even.ensures c.turned-in-Even.ensures
+    let p = c.requires in
+    elim c.in-Lean.is [
+      | inl e ↦ acted-noted p Lean e c.rotate.ensures c.turned.ensures
+      | inr e ↦ acted-noted p Even e c.rotate.ensures c.turned.ensures
+    ]
 
 pub returns-in-Double : goal.returns-in-Double
 returns-in-Double c =

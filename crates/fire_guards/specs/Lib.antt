@@ -1,2 +1,0 @@
--- What the functions of `fire_guards` ask and promise beside `scope`.
-pub mod Leans
