@@ -147,9 +147,10 @@ fn the_calls_are_declared_once() {
 fn a_refusal_has_one_name_and_code_in_rattle_c_and_rust() {
     let rust = rust_refusals();
     let rattle = file("../../crates/scope/src/answer.rt");
-    let variants: Vec<&str> = between(&rattle, "pub enum Refusal {", "}")[0].split(',').map(str::trim).collect();
-    let names: Vec<&str> = rust.iter().map(|(name, _)| name.as_str()).collect();
-    assert_eq!(variants.into_iter().filter(|name| !name.is_empty()).collect::<Vec<_>>(), names);
+    let variants = between(&rattle, "pub enum Refusal {", "}")[0].split(',').filter_map(|line| line.trim().split_once(" = "));
+    let variants: Vec<(String, u64)> =
+        variants.map(|(name, code)| (name.to_string(), code.parse().expect("a code"))).collect();
+    assert_eq!(variants, rust);
 
     let defined = file("../../crates/scope/specs/Answers.antt");
     let codes = defined.lines().filter_map(|line| line.strip_prefix("code_of ")?.split_once(" = "));
