@@ -60,9 +60,11 @@ pub record Replacing (t : List ℕ) (slot least : ℕ) (link : Link) : Type 0 wh
   pub placed : AtSlot t slot
   pub inside : LeastInside t placed.slots (Some (record { slot = least; link = link }))
 
-abbrev pub DropAimed : List ℕ → Dropping → Type 0
-DropAimed t (Lift slot link son) = Lifting t slot link son
-DropAimed t (Replace slot least link) = Replacing t slot least link
+-- a plan that is aimed at the table, or a refusal
+abbrev pub DropAimed : List ℕ → Result Dropping Denial → Type 0
+DropAimed t (Err why) = Unit {0}
+DropAimed t (Ok (Lift slot link son)) = Lifting t slot link son
+DropAimed t (Ok (Replace slot least link)) = Replacing t slot least link
 
 -- a record is counted, and there is a change number left
 pub record MayDrop (t : List ℕ) : Type 0 where

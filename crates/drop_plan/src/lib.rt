@@ -41,8 +41,8 @@ pub fn leftmost(table: Table, most: usize, slot: usize, link: Link) -> Option<Le
     None
 }
 
-// A plan, if a record is counted and there is a change number left.
-pub fn if_may(t: &[u32], plan: Dropping) -> Result<Dropping, Denial>
+// A plan or a refusal, as it was given, if a record is counted and there is a change number left.
+pub fn if_may(t: &[u32], plan: Result<Dropping, Denial>) -> Result<Dropping, Denial>
     requires { Headed t.now × DropAimed t.now plan }
     ensures { DropPlanned t.now (if_may t.now plan) result }
 {
@@ -50,7 +50,7 @@ pub fn if_may(t: &[u32], plan: Dropping) -> Result<Dropping, Denial>
         return Err(Denial::Refused(Refusal::Damaged));
     }
     if words::change(t) < Answer::LAST_CHANGE {
-        Ok(plan)
+        plan
     } else {
         Err(Denial::Refused(Refusal::LastChange))
     }
@@ -70,11 +70,11 @@ pub fn replacing(table: Table, most: usize, slot: usize, right: usize) -> Result
     let least = leftmost(table, most, right, link).ok_or(Refusal::Damaged)?;
     if_may(
         table.words,
-        Dropping::Replace {
+        Ok(Dropping::Replace {
             slot,
             least: least.slot,
             link: least.link,
-        },
+        }),
     )
 }
 
@@ -90,21 +90,21 @@ pub fn drop_at(table: Table, slot: usize, link: Link, seen: usize) -> Result<Dro
     if left == 0 {
         return if_may(
             t,
-            Dropping::Lift {
+            Ok(Dropping::Lift {
                 slot,
                 link,
                 son: right,
-            },
+            }),
         );
     }
     if right == 0 {
         return if_may(
             t,
-            Dropping::Lift {
+            Ok(Dropping::Lift {
                 slot,
                 link,
                 son: left,
-            },
+            }),
         );
     }
     replacing(table, table.slots - seen, slot, right)

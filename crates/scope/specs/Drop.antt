@@ -30,20 +30,20 @@ leftmost_from (suc more) t c k link =
     None
 
 -- tests 3 (a record is found where none is counted) and 7, before what is to be done
-unfoldable pub if_may : List ℕ → Dropping → Result Dropping Denial
+unfoldable pub if_may : List ℕ → Result Dropping Denial → Result Dropping Denial
 if_may t plan =
     cond (eqb (word t count_word) 0) (Err (Refused Damaged))
-    (cond (ltb (word t change_word) last_change) (Ok plan) (Err (Refused LastChange)))
+    (cond (ltb (word t change_word) last_change) plan (Err (Refused LastChange)))
 
 abbrev pub replacing : List ℕ → ℕ → Option Leftmost → Result Dropping Denial
 replacing t slot None = Err (Refused Damaged)
-replacing t slot (Some m) = if_may t (Replace slot m.slot m.link)
+replacing t slot (Some m) = if_may t (Ok (Replace slot m.slot m.link))
 
 -- with at most one son the record is lifted out; with two the walk goes on to the leftmost on its right
 unfoldable pub drop_at : List ℕ → ℕ → ℕ → Link → ℕ → Result Dropping Denial
 drop_at t c slot link seen =
-    cond (eqb (slot_at t slot).left 0) (if_may t (Lift slot link (slot_at t slot).right))
-    (cond (eqb (slot_at t slot).right 0) (if_may t (Lift slot link (slot_at t slot).left))
+    cond (eqb (slot_at t slot).left 0) (if_may t (Ok (Lift slot link (slot_at t slot).right)))
+    (cond (eqb (slot_at t slot).right 0) (if_may t (Ok (Lift slot link (slot_at t slot).left)))
     (replacing t slot
     (leftmost_from (c - seen) t c (slot_at t slot).right (record { holder = slot; side = Right }))))
 

@@ -4,6 +4,7 @@ use mathlib.Core.Path.{◌≡◌, refl, sym, ◌∙◌, ap, subst}
 use mathlib.Core.List.{List}
 use native.Mathlib.Omega.{arith}
 use borrow.Author.Tests.{ne_eqb}
+use Rattle.std.specs.Prelude.{Ok}
 use Rattle.scope.specs.Numbers.{other}
 use Rattle.scope.specs.Table.{word, slot_at, son, link_at}
 use Rattle.scope.specs.Table.{zero_slot}
@@ -54,7 +55,7 @@ unfolding Spells drop_at without_top times
 planned {t} {c} l seen d a b leaf right h high =
     let none : (slot_at t d.slot).left ≡ 0 = rw h.spells.holds h.spells.left in
     record {
-      plan = Lift d.slot l (slot_at t d.slot).right;
+      plan = Ok (Lift d.slot l (slot_at t d.slot).right);
       is = rw none refl;
       plans = lifts (lift-freed l Left d (pair a b) right h refl);
     }
@@ -63,7 +64,7 @@ planned {t} {c} l seen d a b (node e x y p q) leaf h high =
     let some : (slot_at t d.slot).left ≡ 0 → ⊥ = λ z. omega (arith, h.spells.left.there, rw same at z) in
     let none : (slot_at t d.slot).right ≡ 0 = rw h.spells.holds h.spells.right in
     record {
-      plan = Lift d.slot l (slot_at t d.slot).left;
+      plan = Ok (Lift d.slot l (slot_at t d.slot).left);
       is = rw (ne_eqb _ 0 some, none) refl;
       plans = lifts (lift-freed l Right d (pair b a) (node e x y p q) h refl);
     }
@@ -74,7 +75,7 @@ planned {t} {c} l seen d a b (node e x y p q) (node g u v m n) h high =
     let more : (slot_at t d.slot).right ≡ 0 → ⊥ = λ z. omega (arith, h.spells.right.there, rw same at z) in
     let spelled : Spells t c (slot_at t d.slot).right (node g u v m n) = rw h.spells.holds h.spells.right in
     record {
-      plan = Replace d.slot (least g m).slot (least_link on g m);
+      plan = Ok (Replace d.slot (least g m).slot (least_link on g m));
       is = rw (
         ne_eqb _ 0 some,
         ne_eqb _ 0 more,

@@ -151,7 +151,7 @@ module _ (t : List ℕ) where
   abbrev Quiet : Result Dropping Denial → Type 0
   Quiet plan = quiet_done (dropped t plan) ≡ dropped t plan
 
-  may-quiet : (plan : Dropping) → Quiet (Ok plan) → Quiet (if_may t plan)
+  may-quiet : (plan : Result Dropping Denial) → Quiet plan → Quiet (if_may t plan)
   unfolding if_may dropped
   may-quiet plan q =
       by_bool (eqb (word t count_word) 0)
@@ -165,7 +165,7 @@ module _ (t : List ℕ) where
   replacing-quiet : (slot : ℕ) (l : Option Leftmost) → Quiet (replacing t slot l)
   unfolding dropped
   replacing-quiet slot None = refl
-  replacing-quiet slot (Some m) = may-quiet (dropping-is.Replace slot m.slot m.link) refl
+  replacing-quiet slot (Some m) = may-quiet (Ok (dropping-is.Replace slot m.slot m.link)) refl
 
   drop-at-quiet : (c slot : ℕ) (link : Link) (seen : ℕ) → Quiet (drop_at t c slot link seen)
   unfolding drop_at

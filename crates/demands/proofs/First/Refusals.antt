@@ -189,7 +189,7 @@ module _ (t : List ℕ) where
 
   -- drop: as post, and the leftmost on the right
   module _ (key : ℕ) where
-    if-may : (x : Dropping) → Drops (codes_bare (Drop key)) t key (Ok x) → Drops (codes_bare (Drop key)) t key (if_may t x)
+    if-may : (x : Result Dropping Denial) → Drops (codes_bare (Drop key)) t key x → Drops (codes_bare (Drop key)) t key (if_may t x)
     unfolding if_may
     if-may x p =
         either (Drops _ _ _) (eqb (word t count_word) 0) (not_drop Damaged refl)
@@ -197,14 +197,14 @@ module _ (t : List ℕ) where
 
     replacing-may : (slot : ℕ) (x : Option Leftmost) → Drops (codes_bare (Drop key)) t key (replacing t slot x)
     replacing-may slot None = not_drop Damaged refl
-    replacing-may slot (Some m) = if-may (dropping-is.Replace slot m.slot m.link) replace
+    replacing-may slot (Some m) = if-may (Ok (dropping-is.Replace slot m.slot m.link)) replace
 
     dropping-may : (s : Slots) → slots_in (length t) ≡ Some s → (x : Walk) → walk_of t s.count key ≡ x
         → Drops (codes_bare (Drop key)) t key (dropping_at t s.count x)
     unfolding dropping_at drop_at
     dropping-may s e (Hit slot link seen) q =
-        either (Drops _ _ _) (eqb (slot_at t slot).left 0) (if-may (dropping-is.Lift slot link (slot_at t slot).right) lift)
-        (either (Drops _ _ _) (eqb (slot_at t slot).right 0) (if-may (dropping-is.Lift slot link (slot_at t slot).left) lift)
+        either (Drops _ _ _) (eqb (slot_at t slot).left 0) (if-may (Ok (dropping-is.Lift slot link (slot_at t slot).right)) lift)
+        (either (Drops _ _ _) (eqb (slot_at t slot).right 0) (if-may (Ok (dropping-is.Lift slot link (slot_at t slot).left)) lift)
         (replacing-may slot (leftmost_from (s.count - seen) t s.count (slot_at t slot).right (record { holder = slot; side = Right }))))
     dropping-may s e (Miss passed link seen) q = no_drop (misses_with s e key link passed seen q)
     dropping-may s e Damage q = not_drop Damaged refl

@@ -32,7 +32,7 @@ use Rattle.demands.proofs.Open.{header-gate, walk-tree}
 use Rattle.ledger.proofs.Entries.{map_entry, without-entries}
 use Rattle.demands.proofs.Second.Answers.{lookup-is}
 use Rattle.demands.proofs.Second.Amending.{both-refuse, both-lack}
-use Rattle.std.specs.Prelude.{Ok}
+use Rattle.std.specs.Prelude.{Result}
 use Rattle.scope.specs.declared.answer.Denial.{Denial}
 
 module _ {t : List ℕ} {c : ℕ} (w : Whole t c) (key : ℕ) where
@@ -69,13 +69,14 @@ module _ {t : List ℕ} {c : ℕ} (w : Whole t c) (key : ℕ) where
           ledger = rw (es, dropped-change w key d found k f) refl;
         }
 
-    planned : (plan : Dropping) → Plans t c l (end_of key T) plan → AsLedger (dropped t (Ok plan)) c next
+    planned : (plan : Result Dropping Denial) → Plans t c l (end_of key T) plan → AsLedger (dropped t plan) c next
     unfolding dropped
     planned plan (lifts f) = done _ _ f
     planned plan (moves f) = done _ _ f
 
     -- a sound table with a record counts it
-    may : (plan : Dropping) → Plans t c l (end_of key T) plan → AsLedger (dropped t (if_may t plan)) c (entered L removed)
+    may : (plan : Result Dropping Denial) → Plans t c l (end_of key T) plan
+        → AsLedger (dropped t (if_may t plan)) c (entered L removed)
     unfolding if_may
     may plan p =
         rw (ne_eqb (word t count_word) 0 (λ e. omega (arith, some-record w key d found)))
