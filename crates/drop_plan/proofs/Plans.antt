@@ -14,10 +14,10 @@ use Rattle.std.specs.Prelude.{Result, Ok, Err}
 use Rattle.scope.specs.declared.answer.Denial.{Denial}
 
 -- a plan that is aimed at the table can be carried out once a record is counted and a change number is left
-pub can-drop : (t : List ℕ) (plan : Result Dropping Denial) → DropAimed t plan → MayDrop t → CanDrop t plan
-can-drop t (Err why) a m = tt
-can-drop t (Ok (Lift slot link son)) a m = record { aimed = a; may = m }
-can-drop t (Ok (Replace slot least link)) a m = record { aimed = a; may = m }
+pub can_drop : (t : List ℕ) (plan : Result Dropping Denial) → DropAimed t plan → MayDrop t → CanDrop t plan
+can_drop t (Err why) a m = tt
+can_drop t (Ok (Lift slot link son)) a m = record { aimed = a; may = m }
+can_drop t (Ok (Replace slot least link)) a m = record { aimed = a; may = m }
 
 -- of a record that was found, a son as it was read lies in the table, and the record can be lifted out
 module _ {t : List ℕ} {c slot seen : ℕ} {link : Link} (found : FoundAt t c slot link seen) where

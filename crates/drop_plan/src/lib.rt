@@ -42,6 +42,7 @@ pub fn leftmost(table: Table, most: usize, slot: usize, link: Link) -> Option<Le
 }
 
 // A plan or a refusal, as it was given, if a record is counted and there is a change number left.
+#[tactic(auto, unfolding(scope::specs::Drop::if_may), using(crate::proofs::Plans::can_drop))]
 pub fn if_may(t: &[u32], plan: Result<Dropping, Denial>) -> Result<Dropping, Denial>
     requires { Headed t.now × DropAimed t.now plan }
     ensures { DropPlanned t.now (if_may t.now plan) result }
