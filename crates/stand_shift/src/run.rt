@@ -16,33 +16,33 @@ use std::io::{Read, Write};
 // A longer input is answered by one unreadable line.
 pub const MOST_INPUT: usize = 65536;
 
-// Writes the next piece of what `stand` prints on this input, of which `sent` bytes are written already: both are only
+// What came of writing: how many bytes were handed on to be written, whether or not they were, and whether all writes
+// succeeded.
+#[derive(Drop)]
+struct Told {
+    count: usize,
+    done: io::Result<()>,
+}
+
+// Writes the next piece of what `stand` prints on this input, of which `sent` bytes are handed on already: both are only
 // for the contract. Unless the write failed, the writer has the piece.
-fn hand_on<W: Write>(
-    writer: &mut W,
-    input: &[u8],
-    sent: usize,
-    out: &[u8],
-    at: usize,
-) -> io::Result<()>
+fn hand_on<W: Write>(writer: &mut W, input: &[u8], sent: usize, out: &[u8], at: usize) -> Told
     requires { (at ≤ length out.now) × (take at out.now ≡ take at (drop sent (run_text input.now))) }
-    ensures { OnOk result (Appends (W.contents writer.old) (W.contents writer.new) (take at out.now)) }
+    ensures count { result.count ≡ at }
+    ensures bytes { OnOk result.done (Appends (W.contents writer.old) (W.contents writer.new) (take at out.now)) }
 {
-    writer.write_all(&out[..at])
+    let done = writer.write_all(&out[..at]);
+    Told { count: at, done }
 }
 
 // Answers each line of the input, and writes all that `stand` prints, piece after piece: also the pieces after one that
 // was not written.
-fn answer_all<W: Write>(
-    writer: &mut W,
-    input: &[u8],
-    t: &mut [u32],
-    out: &mut [u8],
-) -> io::Result<()>
+fn answer_all<W: Write>(writer: &mut W, input: &[u8], t: &mut [u32], out: &mut [u8]) -> Told
     requires { (length input.now ≤ most_input) × (t.old ≡ new_desk)
         × (desk_room ≤ length out.old) × (length out.old ≤ 16384) }
+    ensures count { result.count ≡ length (run_text input.now) }
     ensures table { t.new ≡ (whole_run t.old input.now).table }
-    ensures bytes { OnOk result (Appends (W.contents writer.old) (W.contents writer.new) (run_text input.now)) }
+    ensures bytes { OnOk result.done (Appends (W.contents writer.old) (W.contents writer.new) (run_text input.now)) }
 {
     let mut from = 0;
     let mut sent = 0;
@@ -50,12 +50,12 @@ fn answer_all<W: Write>(
     // A `while`: a turn goes on where the last one filled the buffer.
     while from < input.len() {
         let filled = fill(t, input, from, out);
-        let piece = hand_on(writer, input, sent, out, filled.at);
-        done = done.and(piece);
-        sent += filled.at;
+        let told = hand_on(writer, input, sent, out, filled.at);
+        sent += told.count;
+        done = done.and(told.done);
         from = filled.next;
     }
-    done
+    Told { count: sent, done }
 }
 
 // Puts the answer to an input that is too long or cannot be read: one unreadable line. The result is how long it is.
@@ -67,9 +67,10 @@ fn put_refusal(out: &mut [u8]) -> usize
 }
 
 // Answers an input that is too long.
-fn refuse_all<W: Write>(writer: &mut W, input: &[u8], out: &mut [u8]) -> io::Result<()>
+fn refuse_all<W: Write>(writer: &mut W, input: &[u8], out: &mut [u8]) -> Told
     requires { (most_input < length input.now) × (answer_room ≤ length out.old) }
-    ensures { OnOk result (Appends (W.contents writer.old) (W.contents writer.new) (run_text input.now)) }
+    ensures count { result.count ≡ length (run_text input.now) }
+    ensures bytes { OnOk result.done (Appends (W.contents writer.old) (W.contents writer.new) (run_text input.now)) }
 {
     let n = put_refusal(out);
     hand_on(writer, input, 0, out, n)
@@ -117,8 +118,8 @@ pub fn run<R: Read, W: Write>(reader: &mut R, writer: &mut W) -> Result<(), Fail
         return Err(Failure::Unread);
     };
     match read {
-        Input::Ended(n) => answer_all(writer, &input[..n], &mut t, &mut out)?,
-        Input::Full => refuse_all(writer, &input, &mut out)?,
+        Input::Ended(n) => answer_all(writer, &input[..n], &mut t, &mut out).done?,
+        Input::Full => refuse_all(writer, &input, &mut out).done?,
     }
     Ok(())
 }

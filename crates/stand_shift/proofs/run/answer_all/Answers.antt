@@ -6,8 +6,8 @@ use Rattle.stand_shift.proofs.Telling.{told_more, told-piece, told-all}
 use Rattle.stand_shift.proofs.Written.{written-more, written-all, both-made}
 use Rattle.stand_shift.proofs.run.answer_all.Goals as goal
 
-pub hand_on-piece-requires : goal.hand_on-piece-requires
-hand_on-piece-requires g c =
+pub hand_on-told-requires : goal.hand_on-told-requires
+hand_on-told-requires g c =
     let f = c.fill-filled.ensures.answered_so in
     (f.within, told-piece c.loop-from.invariant.told f c.requires.0)
 
@@ -16,13 +16,17 @@ loop-from-preserved g c =
     let f = c.fill-filled.ensures.answered_so in
     let i = c.loop-from.invariant in
     let m = c.fill-filled.ensures.from_lt_next c.loop-from-test.true in
+    let told = c.hand_on-told.ensures in
     record {
-      told = told_more i.told f;
-      bounded = omega (arith, m, f.within);
+      told = rw told.count (told_more i.told f);
+      bounded = omega (arith, m, f.within, told.count);
       written =
-          rw c.and-done.ensures
-          (both-made _ _ i.written c.hand_on-piece.ensures (written-more _ _ _ i.told f c.requires.0));
+          rw (told.count, c.and-done.ensures)
+          (both-made _ _ i.written told.bytes (written-more _ _ _ i.told f c.requires.0));
     }
+
+pub returns-clause-count : goal.returns-clause-count
+returns-clause-count g c = (told-all c.loop-from.invariant.told c.requires.0 c.loop-from-test.false).0
 
 pub returns-clause-table : goal.returns-clause-table
 returns-clause-table g c =

@@ -8,4 +8,4 @@ use Rattle.stand_shift.proofs.run.run.Goals as goal
 pub returns-in_ok-refuse_all-in-Full-clause-answered : goal.returns-in_ok-refuse_all-in-Full-clause-answered
 returns-in_ok-refuse_all-in-Full-clause-answered g c =
     read-full _ _ _ _ _ (MOST_INPUT + 1) (rw c.in-Full.is at c.in-Ok.ensures.bytes) (omega arith) (omega arith)
-    c.in_ok-refuse_all-in-Full.ensures
+    (rw c.in_ok-refuse_all-in-Full.was at c.refuse_all.ensures.bytes)
