@@ -19,16 +19,16 @@ use Rattle.scope.specs.declared.side.Link.{Link}
 use Rattle.scope.specs.declared.rule.Rule.{Rule}
 use Rattle.spelling.proofs.Laws.{in_table}
 use Rattle.tidy_sight.specs.MayBeDue.{names}
-use Rattle.tidy_sight.specs.Sight.{sight_of, on_side, due_seen, Present}
+use Rattle.tidy_sight.specs.Sight.{sight_of, on_side, by_son, due_seen, Present}
 use Rattle.tidy_sight.specs.declared.sight.Sight.{Sight}
-use Rattle.std.specs.Prelude.{Option, Some}
+use Rattle.std.specs.Prelude.{Some}
 
 -- a number that names a slot of c is one
 pub named : (c k : ℕ) → names c k ≡ true → (1 ≤ k) × (k ≤ c)
 named c k e = (omega (arith, eqb-false k 0 (not-true _ (and_l _ _ e))), leb-true k c (and_r (not (eqb k 0)) _ e))
 
 due-seen : (t : List ℕ) (c : ℕ) (r : Rule) (v : ℕ) → due_seen t c r (sight_of t c (slot_at t v) r.side) ≡ due_at t c r v
-unfolding due_seen sight_of due_at holds_at guard_at highest_at
+unfolding due_seen by_son sight_of due_at holds_at guard_at highest_at
 due-seen t c r v =
     let u = son (slot_at t v) r.side in
     by_bool (not (eqb (slot_at t v).state 0))
@@ -45,7 +45,7 @@ either t c x Left = refl
 either t c x Right = refl
 
 -- THE TEST BY WHAT IS SEEN is the one that is defined
-pub seen-passes : (t : List ℕ) (c v n : ℕ) {r : Rule} {x : Slot} {left right y : Option Sight} {b : Bool}
+pub seen-passes : (t : List ℕ) (c v n : ℕ) {r : Rule} {x : Slot} {left right y : Sight} {b : Bool}
     → rule_of n ≡ Some r → x ≡ slot_at t v → left ≡ sight_of t c x Left → right ≡ sight_of t c x Right
     → y ≡ on_side r.side left right → b ≡ due_seen t c r y
     → b ≡ passes true t c v n

@@ -6,33 +6,42 @@ ghost use Rattle.tidy_sight.specs.Sight.{sight_of, on_side, allowed, due_seen, P
 
 use scope::{Height, Kind, Link, Nodes, Pair, Rule, Side, Slot, State};
 
-// A side of slot v where it has a son u: the registers of both, and u's son on the other side.
+// A side of slot v: its registers, and the son that it has there.
 #[derive(Clone, Copy)]
 pub struct Sight {
     pub v: Pair,
+    pub son: Option<Son>,
+}
+
+// A son u of slot v: its registers, and its son w on the other side.
+#[derive(Clone, Copy)]
+pub struct Son {
     pub u: Pair,
     pub w: usize,
 }
 
 #[tactic(auto, unfolding(crate::specs::Sight::sight_of))]
-pub fn look(t: &[u32], c: usize, s: Slot, side: Side) -> Option<Sight>
+pub fn look(t: &[u32], c: usize, s: Slot, side: Side) -> Sight
     requires { Sized t.now c }
     ensures { result ≡ sight_of t.now c s side }
 {
     let k = words::son(s, side) as usize;
+    let v = fire_guards::seen(s, side);
     if (s.state != State::FREE) & ((k != 0) & (k <= c)) {
-        let v = fire_guards::seen(s, side);
         let su = words::slot_at(t, k);
         let u = fire_guards::seen(su, side);
         let w = words::son(su, side.other()) as usize;
-        Some(Sight { v, u, w })
+        Sight {
+            v,
+            son: Some(Son { u, w }),
+        }
     } else {
-        None
+        Sight { v, son: None }
     }
 }
 
 // What was seen on one of two sides.
-pub fn on_side(side: Side, left: Option<Sight>, right: Option<Sight>) -> Option<Sight>
+pub fn on_side(side: Side, left: Sight, right: Sight) -> Sight
     ensures { result ≡ on_side side left right }
 {
     match side {
@@ -49,14 +58,15 @@ pub fn allowed(kind: Kind, v: Pair, u: Pair, w: Pair) -> bool
 }
 
 // A rule is due, by what is seen on its side.
-#[tactic(auto, unfolding(crate::specs::Sight::due_seen))]
-pub fn due(t: &[u32], c: usize, r: Rule, x: Option<Sight>) -> bool
+#[tactic(auto, unfolding(crate::specs::Sight::due_seen, crate::specs::Sight::by_son))]
+pub fn due(t: &[u32], c: usize, r: Rule, x: Sight) -> bool
     requires { Sized t.now c }
     ensures { result ≡ due_seen t.now c r x }
 {
-    let Some(Sight { v, u, w }) = x else {
+    let Some(Son { u, w }) = x.son else {
         return false;
     };
+    let v = x.v;
     let kind = r.kind;
     let side = r.side;
     if !fire_aim::has_third(kind) {
