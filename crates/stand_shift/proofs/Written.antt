@@ -1,7 +1,7 @@
 -- What a writer has after several pieces, and what a reader gave: where those bytes are known. Assumes nothing.
 use Prim.Native.Nat.{ℕ, ◌+◌, ◌≤◌, ◌<◌}
-use mathlib.Core.Path.{◌≡◌, sym}
-use mathlib.Core.List.{List, ◌++◌}
+use mathlib.Core.Path.{◌≡◌, sym, ◌∙◌}
+use mathlib.Core.List.{List, ◌++◌, append-nil}
 use native.Mathlib.Omega.{arith}
 use lib.ListN.{length, take, length-append}
 use lib.Seq.{take_all}
@@ -9,7 +9,7 @@ use Rattle.std.proofs.Math.Seq.{take-add}
 use Rattle.std.specs.Prelude.{None, Some, IfSome, Ok, Err, Result, OnOk}
 use Rattle.std.specs.Result.{result_and}
 use Rattle.std.specs.declared.option.Option.{Option}
-use Rattle.std.specs.Io.KnownBytes.{Appends, Consumes}
+use Rattle.std.specs.Io.KnownBytes.{Appends, Consumes, IsAtEnd}
 use Rattle.std.proofs.KnownBytes.{Appends-trans}
 use Rattle.stand_shift.specs.Run.{most_input, run_text, AnsweredSo}
 use Rattle.stand_shift.proofs.Telling.{ToldSoFar, told-piece, too_long}
@@ -31,6 +31,17 @@ pub both-made : {T E P Q S : Type 0} (r s : Result T E) → OnOk r P → OnOk s 
 both-made (Ok x) (Ok y) p q f = f p q
 both-made (Ok x) (Err e) p q f = tt
 both-made (Err e) s p q f = tt
+
+-- what holds after a write that was made
+pub was-made : {T E P : Type 0} {r s : Result T E} {x : T} → s ≡ r → s ≡ Ok x → OnOk r P → P
+was-made e o p = rw (sym e ∙ o) at p
+
+-- WHAT WAS READ IS ALL THAT THE READER HAD
+pub read-ended : (given left old new : Option (List ℕ)) (s : List ℕ) → Consumes given left s → IsAtEnd left
+    → Appends old new (run_text s) → IfSome given (λ xs. Appends old new (run_text xs))
+read-ended None left old new s p end q = tt
+read-ended (Some xs) None old new s p end q = absurd p
+read-ended (Some xs) (Some ys) old new s p end q = rw (p, end, append-nil s) q
 
 -- WHAT WAS READ IS TOO LONG ALREADY: THE ANSWER IS THE SAME, WHATEVER ELSE THE READER HAD
 pub read-full : (given left old new : Option (List ℕ)) (s : List ℕ) (k : ℕ) → Consumes given left (take k s) → length s ≤ k

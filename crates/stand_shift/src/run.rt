@@ -117,9 +117,10 @@ pub fn run<R: Read, W: Write>(reader: &mut R, writer: &mut W) -> Result<(), Fail
         refuse_unread(writer, &mut out).or(Err(Failure::Both))?;
         return Err(Failure::Unread);
     };
-    match read {
-        Input::Ended(n) => answer_all(writer, &input[..n], &mut t, &mut out).done?,
-        Input::Full => refuse_all(writer, &input, &mut out).done?,
-    }
+    let done = match read {
+        Input::Ended(n) => answer_all(writer, &input[..n], &mut t, &mut out).done,
+        Input::Full => refuse_all(writer, &input, &mut out).done,
+    };
+    done?;
     Ok(())
 }
