@@ -42,7 +42,9 @@ pub trait Fold: Copy {
     ghost borne: { (it : Self) → BearsSides (bears it) (handed it) };
 }
 
-// Slot x and what hangs below it, where that is at most `more` slots.
+// Slot x and what hangs below it, where that is at most `more` slots. An empty right side is joined at once: where a join
+// only adds what is said of the right side, the call for that side is then compiled into a loop, and a chain to the
+// right takes no stack.
 #[cycle(fold_at_fold_under)]
 pub fn fold_at<F: Fold>(it: F, t: &[u32], more: usize, x: usize, down: F::Down) -> F::Up
     requires { (1 ≤ x) × FewHang t.now more x × F.bears it more down }
@@ -51,6 +53,9 @@ pub fn fold_at<F: Fold>(it: F, t: &[u32], more: usize, x: usize, down: F::Down) 
     let f = fork_at(t, x);
     let less = more - 1;
     let a = fold_under(it, t, less, f.left, it.hand(f.slot.lefth));
+    if f.right == 0 {
+        return it.join(f, down, a, it.nothing());
+    }
     let b = fold_under(it, t, less, f.right, it.hand(f.slot.righth));
     it.join(f, down, a, b)
 }

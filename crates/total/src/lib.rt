@@ -72,6 +72,7 @@ pub struct Pieces {
     pub key: u32,
 }
 
+// What is said of the right side is added last, so that the fold goes on there by itself.
 impl Fold for Pieces {
     type Down = ();
 
@@ -92,7 +93,7 @@ impl Fold for Pieces {
     fn hand(self, _register: u32) {}
 
     fn join(self, f: Fork, _down: (), a: u64, b: u64) -> u64 {
-        a + b + counted(f.slot, self.key)
+        a + counted(f.slot, self.key) + b
     }
 }
 

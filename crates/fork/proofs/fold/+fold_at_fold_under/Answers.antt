@@ -1,5 +1,5 @@
 -- `fork::fold::fold_at` and `fork::fold::fold_under` meet their contracts. Assumes nothing.
-use mathlib.Core.Path.{◌∙◌}
+use mathlib.Core.Path.{refl, ◌∙◌}
 use native.Mathlib.Omega.{arith}
 use borrow.Author.Rules.{rules}
 use Rattle.fork.proofs.Down.{in_reach, forked, says-leaf}
@@ -27,12 +27,26 @@ fold_at-fold_under-b-requires g t c κs within =
 pub fold_at-join-requires : goal.fold_at-join-requires
 fold_at-join-requires g t c =
     let d = forked c.requires.1 c.requires.0 c.fork_at-f.ensures in
+    let r = g.F.Fold.handed c.args.it c.fork_at-f.result.slot.righth in
+    sides (g.F.Fold.handed c.args.it) d c.requires.2 c.hand.ensures refl c.fold_under-a.ensures
+    (λ k T p. c.nothing.ensures r ∙ says-leaf _ _ (g.F.Fold.says c.args.it r) c.if-f-eq0.true k T p)
+
+pub fold_at-returns-then-f-eq0 : goal.fold_at-returns-then-f-eq0
+fold_at-returns-then-f-eq0 g t c =
+    let d = forked c.requires.1 c.requires.0 c.fork_at-f.ensures in
+    let r = g.F.Fold.handed c.args.it c.fork_at-f.result.slot.righth in
+    said-joined (g.F.Fold.handed c.args.it) d c.requires.2 c.hand.ensures refl c.fold_under-a.ensures
+    (λ k T p. c.nothing.ensures r ∙ says-leaf _ _ (g.F.Fold.says c.args.it r) c.if-f-eq0.true k T p) c.join.ensures
+
+pub fold_at-join-requires-2 : goal.fold_at-join-requires-2
+fold_at-join-requires-2 g t c =
+    let d = forked c.requires.1 c.requires.0 c.fork_at-f.ensures in
     sides (g.F.Fold.handed c.args.it) d c.requires.2 c.hand.ensures c.hand-2.ensures c.fold_under-a.ensures c.fold_under-b.ensures
 
 pub fold_at-returns : goal.fold_at-returns
 fold_at-returns g t c =
     let d = forked c.requires.1 c.requires.0 c.fork_at-f.ensures in
-    said-joined (g.F.Fold.handed c.args.it) d c.requires.2 c.hand.ensures c.hand-2.ensures c.fold_under-a.ensures c.fold_under-b.ensures c.join.ensures
+    said-joined (g.F.Fold.handed c.args.it) d c.requires.2 c.hand.ensures c.hand-2.ensures c.fold_under-a.ensures c.fold_under-b.ensures c.join-2.ensures
 
 pub fold_under-fold_at-requires : goal.fold_under-fold_at-requires
 fold_under-fold_at-requires g t c κs within =

@@ -1,12 +1,12 @@
 -- `Pieces` joins what it says of two sides. Assumes nothing.
-use mathlib.Core.Path.{refl}
 use native.Mathlib.Omega.{arith}
 use Rattle.total.proofs.Walks.{sides-few, own-few, pieces-here}
 use Rattle.total.proofs.PiecesFold.join.Goals as goal
 
 pub overflow_add-result : goal.overflow_add-result
 overflow_add-result c =
-    let s = c.requires in omega (arith, s.fork.most, sides-few s.fork c.args.self.key s.on_left s.on_right)
+    let s = c.requires in
+    omega (arith, s.fork.most, sides-few s.fork c.args.self.key s.on_left s.on_right, own-few s.fork c.args.self.key s.on_left s.on_right c.counted.ensures)
 
 pub overflow_add-result-2 : goal.overflow_add-result-2
 overflow_add-result-2 c =
@@ -14,4 +14,4 @@ overflow_add-result-2 c =
     omega (arith, s.fork.most, sides-few s.fork c.args.self.key s.on_left s.on_right, own-few s.fork c.args.self.key s.on_left s.on_right c.counted.ensures)
 
 pub returns : goal.returns
-returns c s = pieces-here s.fork c.args.self.key s.on_left s.on_right c.counted.ensures refl
+returns c s = pieces-here s.fork c.args.self.key s.on_left s.on_right c.counted.ensures (omega arith)
