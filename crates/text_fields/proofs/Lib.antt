@@ -2,5 +2,6 @@
 pub mod Digits
 pub mod Numbers
 pub mod Words
+pub mod Reading
 pub mod Lines
 pub mod Decimal

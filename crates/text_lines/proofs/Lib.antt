@@ -1,2 +1,3 @@
 -- What is proved in `text_lines` beside its functions.
 pub mod Trying
+pub mod Naming

@@ -1,12 +1,16 @@
 // The forms of a line, tried one after the other.
-ghost use Rattle.std.specs.Prelude.{◌≡◌, [], ◌∷◌, None, map};
+ghost use Rattle.std.specs.Prelude.{◌≡◌, true, [], ◌∷◌, None, map};
+ghost use Rattle.text_fields.specs.Text.{starts_with};
 ghost use Rattle.text_lines.specs.Form.{tried, command_of};
 ghost use Rattle.text_lines.specs.Shape.{form_as};
 
 use crate::command::{Command, Op, asked};
-use text_fields::{Read, end, field, word};
+use text_fields::{Read, end, field};
 
-// What a form looks like: the name that a line of it begins with, and the word before each of its numbers.
+// What every line of a form begins with.
+const OP: &[u8] = b"op=";
+
+// What a form looks like: the name behind `op=`, and the word before each of its numbers.
 #[derive(Clone, Copy)]
 pub struct Shape {
     pub op: Op,
@@ -23,68 +27,68 @@ const KEY: &[&[u8]] = &[b" key="];
 const SHAPES: [Shape; 10] = [
     Shape {
         op: Op::Post,
-        name: b"op=post",
+        name: b"post",
         words: RECORD,
     },
     Shape {
         op: Op::Amend,
-        name: b"op=amend",
+        name: b"amend",
         words: RECORD,
     },
     Shape {
         op: Op::Fire,
-        name: b"op=fire",
+        name: b"fire",
         words: &[b" rule=", b" holder=", b" side="],
     },
     Shape {
         op: Op::Drop,
-        name: b"op=drop",
+        name: b"drop",
         words: KEY,
     },
     Shape {
         op: Op::Find,
-        name: b"op=find",
+        name: b"find",
         words: KEY,
     },
     Shape {
         op: Op::Rank,
-        name: b"op=rank",
+        name: b"rank",
         words: &[b" r="],
     },
     Shape {
         op: Op::Total,
-        name: b"op=total",
+        name: b"total",
         words: KEY,
     },
     Shape {
         op: Op::Tidy,
-        name: b"op=tidy",
+        name: b"tidy",
         words: &[b" budget="],
     },
     Shape {
         op: Op::Worth,
-        name: b"op=worth",
+        name: b"worth",
         words: &[],
     },
     Shape {
         op: Op::List,
-        name: b"op=list",
+        name: b"list",
         words: &[],
     },
 ];
 
 impl Shape {
-    // The command of a line of this form: its name, each word with a number, and nothing else.
+    // The command of a line of this form, which begins with its name: each word with a number, and nothing else.
     fn command(&self, s: &[u8]) -> Option<Command>
+        requires { starts_with (form_as self.now).name s.now ≡ true }
         ensures { result ≡ tried (form_as self.now ∷ []) s.now None }
     {
-        let start = Read {
+        let mut read = Some(Read {
             a: 0,
             b: 0,
             c: 0,
-            next: 0,
-        };
-        let mut read = word(s, self.name, Some(start));
+            next: OP.len() + self.name.len(),
+        });
         for w in self.words {
             read = field(s, w, read);
         }
@@ -93,14 +97,18 @@ impl Shape {
     }
 }
 
-// The command of the first form that the line is of.
+// The command of the first form that the line is of. Most lines have another name behind `op=` than the next form, and
+// that is all that is looked at of it then.
 fn first_command(s: &[u8], shapes: &[Shape]) -> Option<Command>
     ensures { result ≡ tried (map form_as shapes.now) s.now None }
 {
+    let named = s.strip_prefix(OP)?;
     for shape in shapes {
-        let command = shape.command(s);
-        if command.is_some() {
-            return command;
+        if named.starts_with(shape.name) {
+            let command = shape.command(s);
+            if command.is_some() {
+                return command;
+            }
         }
     }
     None

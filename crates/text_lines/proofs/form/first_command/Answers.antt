@@ -1,7 +1,25 @@
 -- `text_lines::form::first_command` meets its contract: the forms are tried one after the other. Assumes nothing.
 use Rattle.std.proofs.Common.{sym, ◌∙◌}
+use Rattle.std.proofs.lemmas.Slice.Eq.{strip_prefix_is}
+use Rattle.std.proofs.lemmas.Bool.Decides.{Decides-eqb}
+use Rattle.text_fields.specs.Text.{bytes}
+use Rattle.text_fields.proofs.Words.{starts-same}
 use Rattle.text_lines.proofs.Trying.{tried-here, shape-tried, tried-none}
+use Rattle.text_lines.proofs.Naming.{other-name, no-name, named-too}
 use Rattle.text_lines.proofs.form.first_command.Goals as goal
+use Rattle.text_lines.proofs.form.first_command.Goals.{then-starts_with+else-is_some, else-starts_with}
+
+-- what `strip_prefix` says of a line that begins with `op=`
+pub returns-in_err-named : goal.returns-in_err-named
+returns-in_err-named c =
+    c.from_residual.ensures ∙ sym (no-name c.args.s.now c.args.shapes.now
+    (rw c.in_err-named.was at (strip_prefix_is Decides-eqb c.args.s.now (bytes "op=") c.strip_prefix.result c.strip_prefix.ensures.cases)))
+
+pub command-command-requires : goal.command-command-requires
+command-command-requires c =
+    named-too c.args.s.now c.in_ok-named.named.now _
+    (rw c.in_ok-named.was at (strip_prefix_is Decides-eqb c.args.s.now (bytes "op=") c.strip_prefix.result c.strip_prefix.ensures.cases))
+    (sym (starts-same _ _) ∙ sym c.starts_with.ensures.value ∙ c.if-starts_with.true)
 
 pub returns-then-is_some : goal.returns-then-is_some
 returns-then-is_some c =
@@ -11,7 +29,13 @@ returns-then-is_some c =
 pub loop-shape-preserved : goal.loop-shape-preserved
 loop-shape-preserved c =
     c.loop-shape.invariant
-    ∙ shape-tried _ _ c.loop-shape.shape-index _ _ c.loop-shape-test.true c.command-command.ensures (sym c.is_some.ensures ∙ c.if-is_some.false)
+    ∙ elim c.if-starts_with.branch [
+      | then-starts_with+else-is_some w ↦
+          shape-tried _ _ c.loop-shape.shape-index _ _ c.loop-shape-test.true w.command-command.ensures (sym w.is_some.ensures ∙ w.if-is_some.false)
+      | else-starts_with w ↦
+          other-name _ _ _ c.loop-shape.shape-index _ (rw c.in_ok-named.was at (strip_prefix_is Decides-eqb c.args.s.now (bytes "op=") c.strip_prefix.result c.strip_prefix.ensures.cases)) c.loop-shape-test.true
+          (sym (starts-same _ _) ∙ sym c.starts_with.ensures.value ∙ w.if-starts_with.false)
+    ]
 
 pub returns : goal.returns
 returns c = sym (c.loop-shape.invariant ∙ tried-none _ _ c.loop-shape.shape-index c.loop-shape-test.false)
