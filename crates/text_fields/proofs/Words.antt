@@ -23,7 +23,7 @@ starts-fits (c ∷ w) [] e = never cc
 starts-fits (c ∷ w) (d ∷ s) e = omega (arith, starts-fits w s (and_r (eqb d c) (starts_with w s) e))
 
 -- a text that begins with a word is that word and what stands behind it
-pub begins : (w s : List ℕ) → starts_with w s ≡ true → s ≡ w ++ drop (length w) s
+begins : (w s : List ℕ) → starts_with w s ≡ true → s ≡ w ++ drop (length w) s
 unfolding starts_with
 begins [] s e = refl
 begins (c ∷ w) [] e = never cc

@@ -19,7 +19,7 @@ use Rattle.scope.specs.declared.side.Link.{Link}
 use Rattle.scope.specs.declared.rule.Rule.{Rule}
 use Rattle.spelling.proofs.Laws.{in_table}
 use Rattle.tidy_sight.specs.MayBeDue.{names}
-use Rattle.tidy_sight.specs.Sight.{sight_of, on_side, by_son, due_seen, Present}
+use Rattle.tidy_sight.specs.Sight.{sight_of, on_side, due_seen, Present}
 use Rattle.tidy_sight.specs.declared.sight.Sight.{Sight}
 use Rattle.std.specs.Prelude.{Some}
 
@@ -28,7 +28,7 @@ pub named : (c k : ℕ) → names c k ≡ true → (1 ≤ k) × (k ≤ c)
 named c k e = (omega (arith, eqb-false k 0 (not-true _ (and_l _ _ e))), leb-true k c (and_r (not (eqb k 0)) _ e))
 
 due-seen : (t : List ℕ) (c : ℕ) (r : Rule) (v : ℕ) → due_seen t c r (sight_of t c (slot_at t v) r.side) ≡ due_at t c r v
-unfolding due_seen by_son sight_of due_at holds_at guard_at highest_at
+unfolding due_seen sight_of due_at holds_at guard_at highest_at
 due-seen t c r v =
     let u = son (slot_at t v) r.side in
     by_bool (not (eqb (slot_at t v).state 0))

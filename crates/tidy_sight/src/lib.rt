@@ -5,4 +5,4 @@ pub mod quick;
 pub mod sight;
 
 pub use quick::may_be_due;
-pub use sight::{Sight, Son, due, look, nodes, on_side};
+pub use sight::{Sight, due, look, nodes, on_side};

@@ -6,16 +6,12 @@ ghost use Rattle.tidy_sight.specs.Sight.{sight_of, on_side, allowed, due_seen, P
 
 use scope::{Height, Kind, Link, Nodes, Pair, Rule, Side, Slot, State};
 
-// A side of slot v: its registers, and the son that it has there.
+// A side of slot v: whether it has a son u there, the registers of both, and u's son on the other side. No Option: with one
+// a tidy of 4,095 rising postings takes 1.3 times as long, and more than its bar over plain Rust.
 #[derive(Clone, Copy)]
 pub struct Sight {
+    pub there: bool,
     pub v: Pair,
-    pub son: Option<Son>,
-}
-
-// A son u of slot v: its registers, and its son w on the other side.
-#[derive(Clone, Copy)]
-pub struct Son {
     pub u: Pair,
     pub w: usize,
 }
@@ -32,11 +28,18 @@ pub fn look(t: &[u32], c: usize, s: Slot, side: Side) -> Sight
         let u = fire_guards::seen(su, side);
         let w = words::son(su, side.other()) as usize;
         Sight {
+            there: true,
             v,
-            son: Some(Son { u, w }),
+            u,
+            w,
         }
     } else {
-        Sight { v, son: None }
+        Sight {
+            there: false,
+            v,
+            u: v,
+            w: 0,
+        }
     }
 }
 
@@ -58,22 +61,26 @@ pub fn allowed(kind: Kind, v: Pair, u: Pair, w: Pair) -> bool
 }
 
 // A rule is due, by what is seen on its side.
-#[tactic(auto, unfolding(crate::specs::Sight::due_seen, crate::specs::Sight::by_son))]
+#[tactic(auto, unfolding(crate::specs::Sight::due_seen))]
 pub fn due(t: &[u32], c: usize, r: Rule, x: Sight) -> bool
     requires { Sized t.now c }
     ensures { result ≡ due_seen t.now c r x }
 {
-    let Some(Son { u, w }) = x.son else {
-        return false;
-    };
-    let v = x.v;
     let kind = r.kind;
     let side = r.side;
-    if !fire_aim::has_third(kind) {
-        return allowed(kind, v, u, u);
-    }
-    if (w != 0) & (w <= c) {
-        allowed(kind, v, u, fire_guards::seen(words::slot_at(t, w), side))
+    let v = x.v;
+    let u = x.u;
+    let w = x.w;
+    if x.there {
+        if fire_aim::has_third(kind) {
+            if (w != 0) & (w <= c) {
+                allowed(kind, v, u, fire_guards::seen(words::slot_at(t, w), side))
+            } else {
+                false
+            }
+        } else {
+            allowed(kind, v, u, u)
+        }
     } else {
         false
     }

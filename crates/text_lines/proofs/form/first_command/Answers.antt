@@ -33,7 +33,9 @@ loop-shape-preserved c =
       | then-starts_with+else-is_some w ↦
           shape-tried _ _ c.loop-shape.shape-index _ _ c.loop-shape-test.true w.command-command.ensures (sym w.is_some.ensures ∙ w.if-is_some.false)
       | else-starts_with w ↦
-          other-name _ _ _ c.loop-shape.shape-index _ (rw c.in_ok-named.was at (strip_prefix_is Decides-eqb c.args.s.now (bytes "op=") c.strip_prefix.result c.strip_prefix.ensures.cases)) c.loop-shape-test.true
+          other-name _ _ _ c.loop-shape.shape-index _
+          (rw c.in_ok-named.was at (strip_prefix_is Decides-eqb c.args.s.now (bytes "op=") c.strip_prefix.result c.strip_prefix.ensures.cases))
+          c.loop-shape-test.true
           (sym (starts-same _ _) ∙ sym c.starts_with.ensures.value ∙ w.if-starts_with.false)
     ]
 
