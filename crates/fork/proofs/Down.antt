@@ -67,6 +67,10 @@ at_leaf t c x e (node d a b l r) p = absurd (omega (arith, p.there))
 pub says-leaf : {A : Type 0} (t : List ℕ) (x : ℕ) (f : Tree → A) → x ≡ 0 → Says t x f (f leaf)
 says-leaf t x f e c T p = ap f (sym (at_leaf t c x e T p))
 
+-- and of an empty link whatever is said of no tree is said there
+pub says-empty : {A : Type 0} (t : List ℕ) (x : ℕ) (f : Tree → A) {r : A} → r ≡ f leaf → x ≡ 0 → Says t x f r
+says-empty t x f e z c T p = e ∙ says-leaf t x f z c T p
+
 -- what a walk of a hanging tree said
 pub said_at : {A : Type 0} {t : List ℕ} {more x : ℕ} (h : FewHang t more x) (f : Tree → A) {r : A} → Says t x f r
     → r ≡ f h.tree

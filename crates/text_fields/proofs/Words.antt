@@ -1,8 +1,9 @@
 -- A word that a text begins with. Assumes nothing.
-use Rattle.std.proofs.Common.{◌≡◌, ℕ, ◌≤◌, true, false, eqb, List, [], ◌∷◌, ◌++◌, length, take, drop, refl, ap, arith, eqb-true}
+use Rattle.std.proofs.Common.{◌≡◌, ℕ, ◌≤◌, true, false, eqb, List, [], ◌∷◌, ◌++◌, length, take, drop, refl, sym, arith}
 use Rattle.std.specs.Cmp.Lexicographic.{pointwise}
-use Rattle.std.proofs.lemmas.Bool.Decides.{nat_tests}
-use Rattle.scope.proofs.Bools.{and_l, and_r, by_bool, never}
+use Rattle.std.proofs.lemmas.Bool.Decides.{nat_tests, Decides-eqb}
+use Rattle.std.proofs.lemmas.Slice.Eq.{starts_is}
+use Rattle.scope.proofs.Bools.{and_r, by_bool, never}
 use Rattle.text_fields.specs.Text.{starts_with}
 
 eqb-comm : (a b : ℕ) → eqb a b ≡ eqb b a
@@ -22,13 +23,6 @@ starts-fits [] s e = omega arith
 starts-fits (c ∷ w) [] e = never cc
 starts-fits (c ∷ w) (d ∷ s) e = omega (arith, starts-fits w s (and_r (eqb d c) (starts_with w s) e))
 
--- a text that begins with a word is that word and what stands behind it
-begins : (w s : List ℕ) → starts_with w s ≡ true → s ≡ w ++ drop (length w) s
-unfolding starts_with
-begins [] s e = refl
-begins (c ∷ w) [] e = never cc
-begins (c ∷ w) (d ∷ s) e = rw (eqb-true d c (and_l _ _ e)) (ap (λ r. c ∷ r) (begins w s (and_r (eqb d c) _ e)))
-
 -- a text begins with a word, and is it and what stands behind it, or does not
 pub begins-or-not : {P : Type 0} (w s : List ℕ) → (s ≡ w ++ drop (length w) s → P) → (starts_with w s ≡ false → P) → P
-begins-or-not w s f g = by_bool (starts_with w s) (λ p. f (begins w s p)) g
+begins-or-not w s f g = by_bool (starts_with w s) (λ p. f ((starts_is Decides-eqb s w _ (sym (starts-same w s))).0 p)) g

@@ -1,5 +1,6 @@
 -- The names of the forms: `op=`, and what stands behind it. Assumes nothing.
-use Rattle.std.proofs.Common.{◌≡◌, ◌≢◌, ℕ, ◌+◌, ◌<◌, true, false, List, [], ◌∷◌, ◌++◌, length, drop, get_or, map, refl, ap, ◌∙◌, None, arith}
+use Rattle.std.proofs.Common.{◌≡◌, ◌≢◌, ℕ, ◌+◌, ◌<◌, true, false, List, [], ◌∷◌, ◌++◌, length, drop, get_or, map}
+use Rattle.std.proofs.Common.{refl, ap, ◌∙◌, None, arith}
 use Rattle.text_fields.specs.Text.{bytes, starts_with}
 use Rattle.text_fields.specs.Read.{begin, numbers, word_then, fields_then, end_then}
 use Rattle.text_fields.proofs.Words.{begins-or-not}

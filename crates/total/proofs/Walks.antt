@@ -70,6 +70,9 @@ module _ {t : List ℕ} {more x : ℕ} {f : Fork} (d : Forked t more x f) {a b :
       pub own-few : own ≤ 1000000
       own-few = omega (arith, eo, own-most (leb f.slot.key K) f.slot.pieces, pieces-most d.c f.slot d.fit)
 
+      pub here-few : a + b + own ≤ 1000000 * more + 1000000
+      here-few = omega (arith, sides-few, own-few)
+
       pub pieces-here : {r : ℕ} → r ≡ a + b + own → r ≡ total_of K (tree_at d)
       unfolding total_of
       pieces-here e =

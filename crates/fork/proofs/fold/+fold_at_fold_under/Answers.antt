@@ -1,8 +1,8 @@
 -- `fork::fold::fold_at` and `fork::fold::fold_under` meet their contracts. Assumes nothing.
-use mathlib.Core.Path.{refl, ◌∙◌}
+use mathlib.Core.Path.{refl}
 use native.Mathlib.Omega.{arith}
 use borrow.Author.Rules.{rules}
-use Rattle.fork.proofs.Down.{in_reach, forked, says-leaf}
+use Rattle.fork.proofs.Down.{in_reach, forked, says-empty}
 use Rattle.fork.proofs.Folding.{sides, said-joined}
 use Rattle.fork.proofs.fold.+fold_at_fold_under.Goals as goal
 
@@ -29,14 +29,14 @@ fold_at-join-requires g t c =
     let d = forked c.requires.1 c.requires.0 c.fork_at-f.ensures in
     let r = g.F.Fold.handed c.args.it c.fork_at-f.result.slot.righth in
     sides (g.F.Fold.handed c.args.it) d c.requires.2 c.hand.ensures refl c.fold_under-a.ensures
-    (λ k T p. c.nothing.ensures r ∙ says-leaf _ _ (g.F.Fold.says c.args.it r) c.if-f-eq0.true k T p)
+    (says-empty _ _ (g.F.Fold.says c.args.it r) (c.nothing.ensures r) c.if-f-eq0.true)
 
 pub fold_at-returns-then-f-eq0 : goal.fold_at-returns-then-f-eq0
 fold_at-returns-then-f-eq0 g t c =
     let d = forked c.requires.1 c.requires.0 c.fork_at-f.ensures in
     let r = g.F.Fold.handed c.args.it c.fork_at-f.result.slot.righth in
     said-joined (g.F.Fold.handed c.args.it) d c.requires.2 c.hand.ensures refl c.fold_under-a.ensures
-    (λ k T p. c.nothing.ensures r ∙ says-leaf _ _ (g.F.Fold.says c.args.it r) c.if-f-eq0.true k T p) c.join.ensures
+    (says-empty _ _ (g.F.Fold.says c.args.it r) (c.nothing.ensures r) c.if-f-eq0.true) c.join.ensures
 
 pub fold_at-join-requires-2 : goal.fold_at-join-requires-2
 fold_at-join-requires-2 g t c =
@@ -53,5 +53,5 @@ fold_under-fold_at-requires g t c κs within =
     (omega (arith, c.decreases), (search rules, (search rules, (search rules, (omega (arith, c.if-x-eq0.false), c.requires.0, c.requires.1)))))
 
 pub fold_under-returns-then-x-eq0 : goal.fold_under-returns-then-x-eq0
-fold_under-returns-then-x-eq0 g t c k T p =
-    c.nothing.ensures c.args.down ∙ says-leaf _ _ (g.F.Fold.says c.args.it c.args.down) c.if-x-eq0.true k T p
+fold_under-returns-then-x-eq0 g t c =
+    says-empty _ _ (g.F.Fold.says c.args.it c.args.down) (c.nothing.ensures c.args.down) c.if-x-eq0.true
