@@ -5,10 +5,8 @@ use Rattle.std.proofs.lemmas.Bool.{false≢true}
 use Rattle.std.proofs.lemmas.List.{at_drop_more, at_drop_all}
 use Rattle.text_fields.specs.Read.{field_then, fields_then}
 use Rattle.text_fields.specs.declared.read.Read.{Read}
-use Rattle.text_lines.specs.Form.{made, form_read, tried}
-use Rattle.text_lines.specs.Shape.{form_as}
+use Rattle.text_lines.specs.Form.{Form, made, form_read, tried}
 use Rattle.text_lines.specs.declared.command.Command.{Command}
-use Rattle.text_lines.specs.declared.form.Shape.{Shape}
 
 -- the texts behind some references
 abbrev pub texts : List (Bor (List ℕ)) → List (List ℕ)
@@ -25,36 +23,37 @@ pub words-all : (s : List ℕ) (ws : List (Bor (List ℕ))) (i : ℕ) (r : Optio
 unfolding fields_then
 words-all s ws i r h = at_drop_all (λ l. fields_then s (texts l) r) ws i h
 
--- a line is of the next form, or it is not, and then the forms after it are tried
-pub tried-more : (s : List ℕ) (shapes : List Shape) (i : ℕ) (d : Shape) → i < length shapes
-    → tried (map form_as (drop i shapes)) s None
-    ≡ made (form_as (get_or shapes i d)).op (form_read s (form_as (get_or shapes i d))) (tried (map form_as (drop (i + 1) shapes)) s None)
-unfolding tried
-tried-more s shapes i d h = at_drop_more (λ l. tried (map form_as l) s None) shapes i d h
+-- of shapes, whatever form each has: a line is of the next form, or it is not, and then the forms after it are tried
+module _ {A : Type 0} (form_by : A → Form) where
+  pub tried-more : (s : List ℕ) (shapes : List A) (i : ℕ) (d : A) → i < length shapes
+      → tried (map form_by (drop i shapes)) s None
+      ≡ made (form_by (get_or shapes i d)).op (form_read s (form_by (get_or shapes i d))) (tried (map form_by (drop (i + 1) shapes)) s None)
+  unfolding tried
+  tried-more s shapes i d h = at_drop_more (λ l. tried (map form_by l) s None) shapes i d h
 
-pub tried-here : (s : List ℕ) (shapes : List Shape) (i : ℕ) (d : Shape) (x : Option Command) → i < length shapes
-    → x ≡ tried (form_as (get_or shapes i d) ∷ []) s None → is_some x ≡ true
-    → x ≡ tried (map form_as (drop i shapes)) s None
-unfolding tried
-tried-here s shapes i d x h e p = go (form_read s (form_as (get_or shapes i d))) e ∙ sym (tried-more s shapes i d h)
-  where
-    go : (r : Option Read) → x ≡ made (form_as (get_or shapes i d)).op r None
-        → x ≡ made (form_as (get_or shapes i d)).op r (tried (map form_as (drop (i + 1) shapes)) s None)
-    go (Some r) e = e
-    go None e = absurd (false≢true (sym (ap is_some e) ∙ p))
+  pub tried-here : (s : List ℕ) (shapes : List A) (i : ℕ) (d : A) (x : Option Command) → i < length shapes
+      → x ≡ tried (form_by (get_or shapes i d) ∷ []) s None → is_some x ≡ true
+      → x ≡ tried (map form_by (drop i shapes)) s None
+  unfolding tried
+  tried-here s shapes i d x h e p = go (form_read s (form_by (get_or shapes i d))) e ∙ sym (tried-more s shapes i d h)
+    where
+      go : (r : Option Read) → x ≡ made (form_by (get_or shapes i d)).op r None
+          → x ≡ made (form_by (get_or shapes i d)).op r (tried (map form_by (drop (i + 1) shapes)) s None)
+      go (Some r) e = e
+      go None e = absurd (false≢true (sym (ap is_some e) ∙ p))
 
-pub shape-tried : (s : List ℕ) (shapes : List Shape) (i : ℕ) (d : Shape) (x : Option Command) → i < length shapes
-    → x ≡ tried (form_as (get_or shapes i d) ∷ []) s None → is_some x ≡ false
-    → tried (map form_as (drop i shapes)) s None ≡ tried (map form_as (drop (i + 1) shapes)) s None
-unfolding tried
-shape-tried s shapes i d x h e p = tried-more s shapes i d h ∙ go (form_read s (form_as (get_or shapes i d))) e
-  where
-    go : (r : Option Read) → x ≡ made (form_as (get_or shapes i d)).op r None
-        → made (form_as (get_or shapes i d)).op r (tried (map form_as (drop (i + 1) shapes)) s None)
-        ≡ tried (map form_as (drop (i + 1) shapes)) s None
-    go (Some r) e = absurd (false≢true (sym p ∙ ap is_some e))
-    go None e = refl
+  pub shape-tried : (s : List ℕ) (shapes : List A) (i : ℕ) (d : A) (x : Option Command) → i < length shapes
+      → x ≡ tried (form_by (get_or shapes i d) ∷ []) s None → is_some x ≡ false
+      → tried (map form_by (drop i shapes)) s None ≡ tried (map form_by (drop (i + 1) shapes)) s None
+  unfolding tried
+  shape-tried s shapes i d x h e p = tried-more s shapes i d h ∙ go (form_read s (form_by (get_or shapes i d))) e
+    where
+      go : (r : Option Read) → x ≡ made (form_by (get_or shapes i d)).op r None
+          → made (form_by (get_or shapes i d)).op r (tried (map form_by (drop (i + 1) shapes)) s None)
+          ≡ tried (map form_by (drop (i + 1) shapes)) s None
+      go (Some r) e = absurd (false≢true (sym p ∙ ap is_some e))
+      go None e = refl
 
-pub tried-none : (s : List ℕ) (shapes : List Shape) (i : ℕ) → length shapes ≤ i → tried (map form_as (drop i shapes)) s None ≡ None
-unfolding tried
-tried-none s shapes i h = at_drop_all (λ l. tried (map form_as l) s None) shapes i h
+  pub tried-none : (s : List ℕ) (shapes : List A) (i : ℕ) → length shapes ≤ i → tried (map form_by (drop i shapes)) s None ≡ None
+  unfolding tried
+  tried-none s shapes i h = at_drop_all (λ l. tried (map form_by l) s None) shapes i h

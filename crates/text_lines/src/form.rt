@@ -2,7 +2,7 @@
 ghost use Rattle.std.specs.Prelude.{◌≡◌, true, [], ◌∷◌, None, map};
 ghost use Rattle.text_fields.specs.Text.{starts_with};
 ghost use Rattle.text_lines.specs.Form.{tried, command_of};
-ghost use Rattle.text_lines.specs.Shape.{form_as};
+ghost use Rattle.text_lines.specs.Shape.{op_form};
 
 use crate::command::{Command, Op, asked};
 use text_fields::{Read, end, field};
@@ -80,8 +80,8 @@ const SHAPES: [Shape; 10] = [
 impl Shape {
     // The command of a line of this form, which begins with its name: each word with a number, and nothing else.
     fn command(&self, s: &[u8]) -> Option<Command>
-        requires { starts_with (form_as self.now).name s.now ≡ true }
-        ensures { result ≡ tried (form_as self.now ∷ []) s.now None }
+        requires { starts_with (op_form self.now).name s.now ≡ true }
+        ensures { result ≡ tried (op_form self.now ∷ []) s.now None }
     {
         let mut read = Some(Read {
             a: 0,
@@ -100,7 +100,7 @@ impl Shape {
 // The command of the first form that the line is of. Most lines have another name behind `op=` than the next form, and
 // that is all that is looked at of it then.
 fn first_command(s: &[u8], shapes: &[Shape]) -> Option<Command>
-    ensures { result ≡ tried (map form_as shapes.now) s.now None }
+    ensures { result ≡ tried (map op_form shapes.now) s.now None }
 {
     let named = s.strip_prefix(OP)?;
     for shape in shapes {

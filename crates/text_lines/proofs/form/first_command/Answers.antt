@@ -5,6 +5,7 @@ use Rattle.std.proofs.lemmas.Slice.Eq.{strip_prefix_is}
 use Rattle.std.proofs.lemmas.Bool.Decides.{Decides-eqb}
 use Rattle.text_fields.specs.Text.{bytes}
 use Rattle.text_fields.proofs.Words.{starts-same}
+use Rattle.text_lines.specs.Shape.{op_form}
 use Rattle.text_lines.proofs.Trying.{tried-here, shape-tried, tried-none}
 use Rattle.text_lines.proofs.Naming.{other-name, no-name, named-too}
 use Rattle.text_lines.proofs.form.first_command.Goals as goal
@@ -28,7 +29,7 @@ command-command-requires c =
 
 pub returns-then-is_some : goal.returns-then-is_some
 returns-then-is_some c =
-    tried-here _ _ c.loop-shape.shape-index _ _ c.loop-shape-test.true c.command-command.ensures (sym c.is_some.ensures ∙ c.if-is_some.true)
+    tried-here op_form _ _ c.loop-shape.shape-index _ _ c.loop-shape-test.true c.command-command.ensures (sym c.is_some.ensures ∙ c.if-is_some.true)
     ∙ sym c.loop-shape.invariant
 
 pub loop-shape-preserved : goal.loop-shape-preserved
@@ -36,7 +37,7 @@ loop-shape-preserved c =
     c.loop-shape.invariant
     ∙ elim c.if-starts_with.branch [
       | then-starts_with+else-is_some w ↦
-          shape-tried _ _ c.loop-shape.shape-index _ _ c.loop-shape-test.true w.command-command.ensures (sym w.is_some.ensures ∙ w.if-is_some.false)
+          shape-tried op_form _ _ c.loop-shape.shape-index _ _ c.loop-shape-test.true w.command-command.ensures (sym w.is_some.ensures ∙ w.if-is_some.false)
       | else-starts_with w ↦
           other-name _ _ _ c.loop-shape.shape-index _
           (rw c.in_ok-named.was at (told (goal.at.loop-shape-preserved c).After-strip_prefix))
@@ -45,4 +46,4 @@ loop-shape-preserved c =
     ]
 
 pub returns : goal.returns
-returns c = sym (c.loop-shape.invariant ∙ tried-none _ _ c.loop-shape.shape-index c.loop-shape-test.false)
+returns c = sym (c.loop-shape.invariant ∙ tried-none op_form _ _ c.loop-shape.shape-index c.loop-shape-test.false)
