@@ -1,6 +1,6 @@
 -- The words of a form, read one after the other, and forms tried one after the other. Assumes nothing.
-use Rattle.std.proofs.Common.{◌≡◌, ℕ, ◌+◌, ◌≤◌, ◌<◌, true, false, List, [], ◌∷◌, length, drop, get_or, map, Bor, refl, ap, ◌∙◌}
-use Rattle.std.proofs.Common.{sym, Some, None, Option, is_some}
+use Rattle.std.proofs.Common.{◌≡◌, ℕ, ◌+◌, ◌≤◌, ◌<◌, true, false, List, [], ◌∷◌, length, drop, get_or, map, Bor, refl, ap}
+use Rattle.std.proofs.Common.{◌∙◌, sym, Some, None, Option, is_some}
 use Rattle.std.proofs.lemmas.Bool.{false≢true}
 use Rattle.std.proofs.lemmas.List.{at_drop_more, at_drop_all}
 use Rattle.text_fields.specs.Read.{field_then, fields_then}
